@@ -19,7 +19,8 @@ pub struct Glyph {
 pub const BLANK: u64 = 651051621131747360;
 
 pub fn pack(g: Glyph) -> u64
-    ensures { λ r. ⌜ r ≡ packed (cell-of g) ⌝ }
+    ensures value { λ r. ⌜ r ≡ packed (cell-of g) ⌝ }
+    ensures back { λ r. ⌜ unpacked r ≡ cell-of g ⌝ }
 {
     let style = g.rendition;
     (((style.ground as u64) << 8 | style.fore as u64) << 16 | style.marks as u64) << 32

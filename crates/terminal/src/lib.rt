@@ -1,6 +1,9 @@
 // A terminal: the parser of bytes and every control function, over a state by value and cells in lent memory.
 mod cursor;
+mod edit;
 mod modes;
 mod parameters;
+mod print;
+mod scroll;
 mod sgr;
 pub mod state;

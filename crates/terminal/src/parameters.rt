@@ -2,6 +2,7 @@
 ghost use mathlib.Core.Path.{_≡_};
 ghost use mathlib.Core.Bool.{_&&_};
 ghost use mathlib.Core.List.{[], _∷_, _++_};
+ghost use Prim.Native.Nat.{_<_};
 ghost use lib.ListN.{getD, take};
 ghost use Rattle.meaning.specs.Words.{none-of};
 ghost use Rattle.meaning.specs.Bytes.{add-digit, ended, all-numbers, one-of};
@@ -10,14 +11,14 @@ use crate::state::Parameters;
 
 // The kth parameter, or 0.
 pub(crate) fn value_at(ps: &[u16], k: usize) -> usize
-    ensures { λ r. ⌜ r ≡ getD (now (ps .entry)) k 0 ⌝ }
+    ensures { λ r. ⌜ r ≡ getD (now (ps .entry)) k 0 ⌝ ∗ ⌜ r < 65536 ⌝ }
 {
     if k < ps.len() { ps[k] as usize } else { 0 }
 }
 
 // The kth parameter, but at least 1.
 pub(crate) fn count_at(ps: &[u16], k: usize) -> usize
-    ensures { λ r. ⌜ r ≡ one-of (now (ps .entry)) k ⌝ }
+    ensures { λ r. ⌜ r ≡ one-of (now (ps .entry)) k ⌝ ∗ ⌜ r < 65536 ⌝ }
 {
     value_at(ps, k).max(1)
 }

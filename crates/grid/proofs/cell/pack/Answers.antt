@@ -1,6 +1,9 @@
 -- The shifted parts don't overlap, so each or is a sum.
 use native.Mathlib.Omega.{arith}
-use Prim.Native.Nat.{_+_, _*_}
+use mathlib.Core.Path.{_≡_, ap, _∙_}
+use Prim.Native.Nat.{_+_, _*_, _^_}
+use Rattle.grid.specs.Cells.{packed, unpacked, cell-of}
+use Rattle.grid.proofs.Codes.{unpacked-packed}
 use Rattle.std.proofs.shelf.Bits.{or-shifted, shl-whole}
 use Rattle.grid.proofs.cell.pack.Needs as need
 
@@ -14,4 +17,5 @@ returns c =
       or-shifted (r .ground * 256 + r .fore) 16 (r .marks) (omega arith),
       shl-whole ((r .ground * 256 + r .fore) * 65536 + r .marks) 32 32 64 (omega arith) (omega arith),
       or-shifted ((r .ground * 256 + r .fore) * 65536 + r .marks) 32 (c .args .g .sign) (omega arith),
-    ) (omega arith)
+    ) (let v : ((r .ground * 256 + r .fore) * 65536 + r .marks) * 2 ^ 32 + c .args .g .sign ≡ packed (cell-of (c .args .g)) = omega arith in
+    record { value = v; back = ap unpacked v ∙ unpacked-packed (cell-of (c .args .g)) (omega arith) (omega arith) (omega arith) })
