@@ -2,3 +2,5 @@ pub mod Parts
 pub mod Places
 pub mod Cursor
 pub mod Large
+pub mod Controls
+pub mod Edits
