@@ -63,7 +63,7 @@ module _ (P Q : Term → Type 0) (k : Controls P Q) where
   sequence-leads t private ps c p =
       let n : ℕ = one-of ps 0 in
       pick-both Q private _ _
-        (pick-both Q (eqb c 104) _ _ (k .set-modes true true t ps p) (pick-both Q (eqb c 108) _ _ (k .set-modes false true t ps p) (k .stay t p)))
+      (pick-both Q (eqb c 104) _ _ (k .set-modes true true t ps p) (pick-both Q (eqb c 108) _ _ (k .set-modes false true t ps p) (k .stay t p)))
       (pick-both Q (eqb c 65) _ _ (k .up t n p) (pick-both Q (eqb c 66) _ _ (k .down t n p)
       (pick-both Q (eqb c 67) _ _ (k .column t (t .col + n) p) (pick-both Q (eqb c 68) _ _ (k .left t n p)
       (pick-both Q (eqb c 69) _ _ (k .down-first t n p) (pick-both Q (eqb c 70) _ _ (k .up-first t n p)
@@ -97,7 +97,7 @@ module _ (P : Term → Type 0) (k : Controls P P) (reads : (t : Term) (r : Readi
   byte-read-keeps : (t : Term) (r : Reading) (c : ℕ) → 32 ≤ c → (c ≡ 127 → ⊥) → P t → P (byte-read t r c)
   byte-read-keeps t ground c a b p =
       cond-both (leb 128 c) 63 c (λ x. P (printed t x)) (λ _. prints t 63 (omega arith) (omega arith) p)
-        (λ e. prints t c a (let z = leb-false 128 c e in omega arith) p)
+      (λ e. prints t c a (let z = leb-false 128 c e in omega arith) p)
   byte-read-keeps t escape c a b p =
       pick-both P (eqb c 91) _ _ (reads t _ p) (pick-both P (eqb c 93) _ _ (reads t _ p)
       (pick-both P (leb 32 c && leb c 47) _ _ (reads t _ p) (escape-leads P P k (back-to-ground t) c (reads t ground p))))
@@ -110,7 +110,7 @@ module _ (P : Term → Type 0) (k : Controls P P) (reads : (t : Term) (r : Readi
   unfolding byte
   byte-keeps t c p =
       cond-both (ltb c 32) _ _ P (λ _. low-byte-keeps t c p)
-        (λ a. cond-both (eqb c 127) _ _ P (λ _. p) (λ b. byte-read-keeps t (t .reading) c (ltb-false c 32 a) (eqb-false c 127 b) p))
+      (λ a. cond-both (eqb c 127) _ _ P (λ _. p) (λ b. byte-read-keeps t (t .reading) c (ltb-false c 32 a) (eqb-false c 127 b) p))
 
   pub written-keeps : (t : Term) (cs : List ℕ) → P t → P (written t cs)
   unfolding written

@@ -36,18 +36,18 @@ module _ (P : List Cell → Type 0) (w : ℕ) (b : P (blank-row w)) where
   pub all-scrolled-up : (rs : List (List Cell)) (top bottom k : ℕ) → All P rs → All P (scrolled-up w rs top bottom k)
   all-scrolled-up rs top bottom k p =
       all-append P _ (drop (suc bottom) rs)
-        (all-append P _ (so-many (smaller k (suc bottom - top)) (blank-row w))
-          (all-append P (take top rs) _ (all-take P top rs p) (all-drop P k _ (all-take P (suc bottom - top) _ (all-drop P top rs p))))
-          (all-replicate P _ (blank-row w) b))
-        (all-drop P (suc bottom) rs p)
+      (all-append P _ (so-many (smaller k (suc bottom - top)) (blank-row w))
+      (all-append P (take top rs) _ (all-take P top rs p) (all-drop P k _ (all-take P (suc bottom - top) _ (all-drop P top rs p))))
+      (all-replicate P _ (blank-row w) b))
+      (all-drop P (suc bottom) rs p)
 
   pub all-scrolled-down : (rs : List (List Cell)) (top bottom k : ℕ) → All P rs → All P (scrolled-down w rs top bottom k)
   all-scrolled-down rs top bottom k p =
       all-append P _ (drop (suc bottom) rs)
-        (all-append P _ (take (suc bottom - top - k) (drop top rs))
-          (all-append P (take top rs) _ (all-take P top rs p) (all-replicate P _ (blank-row w) b))
-          (all-take P (suc bottom - top - k) _ (all-drop P top rs p)))
-        (all-drop P (suc bottom) rs p)
+      (all-append P _ (take (suc bottom - top - k) (drop top rs))
+      (all-append P (take top rs) _ (all-take P top rs p) (all-replicate P _ (blank-row w) b))
+      (all-take P (suc bottom - top - k) _ (all-drop P top rs p)))
+      (all-drop P (suc bottom) rs p)
 
 pub length-scrolled-up : (w : ℕ) (rs : List (List Cell)) (top bottom k : ℕ) → top ≤ bottom → bottom < length rs → length (scrolled-up w rs top bottom k) ≡ length rs
 length-scrolled-up w rs top bottom k p q = simp (length-append, length-take, length-drop, length-replicate) (omega arith)
@@ -68,7 +68,7 @@ module _ (C : Cell → Type 0) (b : C blank) where
   pub all-wiped : (from to : ℕ) (r : List Cell) → All C r → All C (wiped from to r)
   all-wiped from to r p =
       all-append C _ (drop (larger from to) r)
-        (all-append C (take from r) _ (all-take C from r p) (all-replicate C (smaller to (length r) - from) blank b)) (all-drop C _ r p)
+      (all-append C (take from r) _ (all-take C from r p) (all-replicate C (smaller to (length r) - from) blank b)) (all-drop C _ r p)
 
   pub all-fitted-row : (w : ℕ) (r : List Cell) → All C r → All C (fitted-row w r)
   all-fitted-row w r p = all-take C w _ (all-append C r _ p (all-replicate C w blank b))

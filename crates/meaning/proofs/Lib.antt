@@ -4,3 +4,4 @@ pub mod Cursor
 pub mod Large
 pub mod Controls
 pub mod Edits
+pub mod Sound

@@ -3,7 +3,7 @@ mod answer;
 
 pub use answer::Reply;
 pub use answer::Told;
-ghost use Rattle.meaning.specs.Laws.{In-parts, Restored, On-and-back, Keys-go, Picture-large, Shared};
+ghost use Rattle.meaning.specs.Laws.{In-parts, Restored, On-and-back, Keys-go, Picture-large, Shared, Stays-good};
 
 // Bytes can be written in two parts, cut anywhere.
 pub fn in_parts_stands() -> u8
@@ -43,6 +43,13 @@ pub fn picture_large_stands() -> u8
 // The places of a layout don't overlap and don't stick out.
 pub fn shared_stands() -> u8
     ensures { λ _. ⌜ Shared ⌝ }
+{
+    0
+}
+
+// A screen keeps its size whatever byte is written, and its cursor stays on it.
+pub fn stays_good_stands() -> u8
+    ensures { λ _. ⌜ Stays-good ⌝ }
 {
     0
 }
