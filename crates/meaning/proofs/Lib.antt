@@ -5,3 +5,4 @@ pub mod Large
 pub mod Controls
 pub mod Edits
 pub mod Sound
+pub mod Drawable
