@@ -15,7 +15,7 @@ use Rattle.meaning.specs.Words.{pick, every, so-many}
 use Rattle.meaning.specs.Screen.{Style, Cell, Saved, Term, blank, blank-row, fresh, at, row-at, with-rows, with-reading, with-answer, with-style, with-modes, with-region, row-on, row-back, change-row, opened, closed, wiped, put-sign, step-right, printed, goes-to, wipe-row, wipe-all, lines-in, lines-out, up-by, down-by, in-region, region, marked, bit-on, bit-off, styled-one, styled, fitted-row, fitted}
 use Rattle.meaning.specs.Bytes.{modes, mode-one, answers, byte, written}
 use Rattle.meaning.specs.Laws.{colour, drawable, fine-style, fine-cell, fine-screen, Stays-drawable}
-use Rattle.meaning.proofs.Controls.{Controls, pick-both, byte-keeps, written-keeps}
+use Rattle.meaning.proofs.Controls.{Controls, Steps, pick-both, byte-keeps, written-keeps}
 use Rattle.meaning.proofs.Edits.{decides-every, all-replicate, row-at-has-or, all-scrolled-up, all-scrolled-down, all-opened, all-closed, all-wiped, all-fitted-row}
 
 abbrev pub Fine-row : List Cell → Type 0
@@ -165,7 +165,7 @@ fine-fitted t w h f =
     let cut = all-weaker Fine-row (λ r. Fine-row (fitted-row w r)) (all-fitted-row (λ c. fine-cell c ≡ true) refl w) _ kept in
     record { cells = all-take Fine-row h _ (all-append Fine-row _ _ (all-map Fine-row (fitted-row w) _ cut) (fine-blank-rows h w)); writes = f .writes; saves = refl }
 
-fine-controls : Controls Fine Fine
+fine-controls : Controls Fine
 fine-controls = record {
   stay = λ t f. f;
   on = fine-row-on;
@@ -191,17 +191,22 @@ fine-controls = record {
   set-region = fine-region;
   restyle = λ t ns f. record { cells = f .cells; writes = fine-styled (t .style) ns (f .writes); saves = f .saves };
   set-modes = fine-modes;
-  report = λ t k f. pick-both Fine (eqb k 6) _ _ f (pick-both Fine (eqb k 5) _ _ f f);
   saves = λ t f. record { cells = f .cells; writes = f .writes; saves = f .writes };
   restores = λ t f. record { cells = f .cells; writes = f .saves; saves = f .saves };
   resets = λ t f. fine-fresh (t .wide) (t .high);
 }
 
+fine-report : (t : Term) (k : ℕ) → Fine t → Fine (answers t k)
+fine-report t k f = pick-both Fine (eqb k 6) _ _ f (pick-both Fine (eqb k 5) _ _ f f)
+
+fine-steps : Steps Fine
+fine-steps = record { controls = fine-controls; report = fine-report; print = fine-printed; reads = λ t r f. f }
+
 pub fine-byte : (t : Term) (c : ℕ) → Fine t → Fine (byte t c)
-fine-byte t c f = byte-keeps Fine fine-controls (λ t r f. f) fine-printed t c f
+fine-byte t c f = byte-keeps Fine fine-steps t c f
 
 pub fine-written : (t : Term) (cs : List ℕ) → Fine t → Fine (written t cs)
-fine-written t cs f = written-keeps Fine fine-controls (λ t r f. f) fine-printed t cs f
+fine-written t cs f = written-keeps Fine fine-steps t cs f
 
 -- the statement's own word for it
 rows-decide : (rs : List (List Cell)) → Decides (every (λ r. every fine-cell r) rs) (All Fine-row rs)

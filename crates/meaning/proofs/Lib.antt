@@ -6,3 +6,4 @@ pub mod Controls
 pub mod Edits
 pub mod Sound
 pub mod Drawable
+pub mod Reports

@@ -16,7 +16,7 @@ use Rattle.meaning.specs.Words.{pick, every, smaller, so-many}
 use Rattle.meaning.specs.Screen.{Cell, Term, Reading, blank, blank-row, fresh, at, row-at, with-rows, with-reading, with-modes, with-region, row-on, row-back, change-row, opened, closed, wiped, put-sign, step-right, printed, goes-to, goes-up, goes-down, wipe-row, wipe-all, lines-in, lines-out, up-by, down-by, scrolled-up, scrolled-down, in-region, region, fitted-row, fitted}
 use Rattle.meaning.specs.Bytes.{modes, mode-one, answers, byte, written}
 use Rattle.meaning.specs.Laws.{good, Stays-good}
-use Rattle.meaning.proofs.Controls.{Controls, pick-both, byte-keeps, written-keeps}
+use Rattle.meaning.proofs.Controls.{Controls, Steps, pick-both, byte-keeps, written-keeps}
 use Rattle.meaning.proofs.Edits.{decides-every, all-replicate, row-at-has, all-scrolled-up, all-scrolled-down, length-scrolled-up, length-scrolled-down, length-opened, length-closed, length-wiped, length-fitted-row}
 
 abbrev pub As-wide : ℕ → List (List Cell) → Type 0
@@ -214,7 +214,7 @@ module _ (w h : ℕ) where
   sound-reset : (t : Term) → Sound w h t → Sound w h (fresh (t .wide) (t .high))
   sound-reset t s = rw (s .is-wide, s .is-high) (sound-fresh (omega arith) (omega arith))
 
-  sound-controls : Controls (Sound w h) (Sound w h)
+  sound-controls : Controls (Sound w h)
   sound-controls = record {
     stay = λ t s. s;
     on = sound-row-on;
@@ -240,17 +240,22 @@ module _ (w h : ℕ) where
     set-region = sound-region;
     restyle = λ t ns s. s;
     set-modes = sound-modes;
-    report = λ t k s. pick-both (Sound w h) (eqb k 6) _ _ s (pick-both (Sound w h) (eqb k 5) _ _ s s);
     saves = λ t s. s;
     restores = λ t s. sound-at t _ _ s (omega arith) (omega arith);
     resets = sound-reset;
   }
 
+  sound-report : (t : Term) (k : ℕ) → Sound w h t → Sound w h (answers t k)
+  sound-report t k s = pick-both (Sound w h) (eqb k 6) _ _ s (pick-both (Sound w h) (eqb k 5) _ _ s s)
+
+  sound-steps : Steps (Sound w h)
+  sound-steps = record { controls = sound-controls; report = sound-report; print = λ t c _ _ s. sound-printed t c s; reads = λ t r s. s }
+
   pub sound-byte : (t : Term) (c : ℕ) → Sound w h t → Sound w h (byte t c)
-  sound-byte t c s = byte-keeps (Sound w h) sound-controls (λ t r s. s) (λ t c _ _ s. sound-printed t c s) t c s
+  sound-byte t c s = byte-keeps (Sound w h) sound-steps t c s
 
   pub sound-written : (t : Term) (cs : List ℕ) → Sound w h t → Sound w h (written t cs)
-  sound-written t cs s = written-keeps (Sound w h) sound-controls (λ t r s. s) (λ t c _ _ s. sound-printed t c s) t cs s
+  sound-written t cs s = written-keeps (Sound w h) sound-steps t cs s
 
 -- the statement's own word for it
 pub good-sound : (t : Term) → good t ≡ true → Sound (t .wide) (t .high) t
