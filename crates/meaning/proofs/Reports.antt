@@ -6,10 +6,11 @@ use mathlib.Core.Logic.{_⊎_, inl, inr}
 use Prim.Native.Nat.{ℕ, zero, suc, _+_, _*_, _-_, _≤_, _<_}
 use lib.Dec.{eqb, ltb, leb}
 use lib.ListN.{length, getD, length-append}
+use native.Mathlib.Nat.{add-zero}
 use native.Mathlib.Omega.{arith}
 use Rattle.std.specs.shelf.Lists.{All}
 use Rattle.std.proofs.shelf.Elements.{all-append}
-use Rattle.std.proofs.shelf.Ways.{tells, decides-ltb}
+use Rattle.std.proofs.shelf.Ways.{tells, decides-ltb, decides-below-and}
 use Rattle.std.proofs.shelf.Tests.{and-parts, leb-true, eqb-true, eqb-false, cond-both, cases-bool, cases-eq}
 use Rattle.meaning.specs.Words.{pick, or, every, none-of}
 use Rattle.meaning.specs.Screen.{Term, Reading, ground, escape, sequence, passed, string, string-end, at, with-reading, with-modes, with-region, row-on, row-back, put-sign, step-right, printed, goes-to, wipe-row, wipe-all, lines-in, lines-out, in-region, region}
@@ -118,3 +119,143 @@ module _ (a : List ℕ) (m : ℕ) where
     restores = λ t q. q;
     resets = λ t q. record { same = q .same; most = omega arith };
   }
+
+-- numbers in decimal, by computing each
+abbrev all-below : (ℕ → Bool) → ℕ → Bool
+all-below p zero = true
+all-below p (suc n) = p n && all-below p n
+
+short : ℕ → ℕ → Bool
+short m n = leb (length (in-digits n)) m && every (λ x. ltb x 256) (in-digits n)
+
+from-table : (p : ℕ → Bool) (n : ℕ) → all-below p n ≡ true → (k : ℕ) → k < n → p k ≡ true
+from-table p n e = decides-below-and p (λ k. p k ≡ true) (all-below p) (λ k. (λ x. x, λ x. x)) refl (λ _. refl) n .0 e
+
+two-digits : all-below (short 2) 61 ≡ true
+unfolding short digits
+two-digits = refl
+
+three-digits : all-below (short 3) 201 ≡ true
+unfolding short digits
+three-digits = refl
+
+abbrev Small : List ℕ → Type 0
+Small bs = All (λ b. b < 256) bs
+
+small-digits : (m n : ℕ) → short m n ≡ true → (length (in-digits n) ≤ m) × Small (in-digits n)
+unfolding short
+small-digits m n e =
+    let p = and-parts (leb (length (in-digits n)) m) _ e in
+    (leb-true _ _ (p .0), decides-every (λ x. ltb x 256) (λ x. x < 256) (λ x. decides-ltb x 256) (in-digits n) .0 (p .1))
+
+pub place-told-short : (w h : ℕ) (t : Term) → w ≤ 200 → h ≤ 60 → Sound w h t → (length (place-told t) ≤ 9) × Small (place-told t)
+place-told-short w h t p q s =
+    let r : ℕ = suc (t .row - pick (t .origin) (t .top) 0) in
+    let a = small-digits 2 r (from-table (short 2) 61 two-digits r (omega arith)) in
+    let b = small-digits 3 (suc (t .col)) (from-table (short 3) 201 three-digits (suc (t .col)) (omega arith)) in
+    let row : List ℕ = 27 ∷ 91 ∷ in-digits r in
+    let col : List ℕ = 59 ∷ in-digits (suc (t .col)) in
+    (simp length-append (omega arith), all-append (λ x. x < 256) (row ++ col) (82 ∷ []) (all-append (λ x. x < 256) row col (omega arith, (omega arith, a .1)) (omega arith, b .1)) (omega arith, tt))
+
+-- at most nine bytes a report since the answer was b bytes long, and each report is paid for by four of n bytes
+pub record Reported-fields (b n : ℕ) (answer : List ℕ) (reading : Reading) : Type 0 where
+  pub count : ℕ
+  pub few : length answer ≤ b + 9 * count
+  pub paid : 4 * count + asked reading ≤ n
+  pub small : Small answer
+
+abbrev pub Reported : ℕ → ℕ → Term → Type 0
+Reported b n t = Reported-fields b n (t .answer) (t .reading)
+
+module _ (b n : ℕ) where
+  reported-quiet : (a : List ℕ) (r : Reading) (u : Term) → Reported-fields b n a r → Quiet a (suc (asked r)) u → Reported b (suc n) u
+  reported-quiet a r u s q = record { count = s .count; few = rw (q .same) (s .few); paid = omega arith; small = rw (q .same) (s .small) }
+
+  reported-more : (a bs : List ℕ) (r : Reading) → asked r ≡ 3 → Reported-fields b n a r → length bs ≤ 9 → Small bs → Reported-fields b (suc n) (a ++ bs) ground
+  reported-more a bs r e s h p =
+      record { count = suc (s .count); few = rw length-append (omega arith); paid = omega arith; small = all-append (λ x. x < 256) a bs (s .small) p }
+
+  reported-answers : (w h : ℕ) (t : Term) (r : Reading) (k : ℕ) → w ≤ 200 → h ≤ 60 → Sound w h t → asked r ≡ 3 → Reported-fields b n (t .answer) r → Reported b (suc n) (answers (back-to-ground t) k)
+  reported-answers w h t r k p q o e s =
+      let d = place-told-short w h t p q o in
+      pick-both (Reported b (suc n)) (eqb k 6) _ _ (reported-more (t .answer) (place-told t) r e s (d .0) (d .1))
+      (pick-both (Reported b (suc n)) (eqb k 5) _ _
+      (reported-more (t .answer) (27 ∷ 91 ∷ 48 ∷ 110 ∷ []) r e s (omega arith) (omega arith, (omega arith, (omega arith, (omega arith, tt)))))
+      (reported-quiet (t .answer) r (back-to-ground t) s (record { same = refl; most = omega arith })))
+
+  -- a control sequence's end: the program is told something only by CSI n, and only after a parameter
+  quiet-ground : (t : Term) (m : ℕ) → Quiet (t .answer) m (back-to-ground t)
+  quiet-ground t m = record { same = refl; most = omega arith }
+
+  done-report : (t : Term) (private : Bool) (ps : List ℕ) → done-sequence t private ps 110 ≡ pick private t (answers t (getD ps 0 0))
+  done-report t true ps = refl
+  done-report t false ps = refl
+
+  reported-question : (w h : ℕ) (t : Term) (private : Bool) (ps now : List ℕ) → w ≤ 200 → h ≤ 60 → Sound w h t → Reported-fields b n (t .answer) (sequence private ps now) → Reported b (suc n) (answers (back-to-ground t) (getD (all-numbers ps now) 0 0))
+  reported-question w h t private [] [] p q o s = reported-quiet (t .answer) (sequence private [] []) (back-to-ground t) s (quiet-ground t _)
+  reported-question w h t private [] (m ∷ ms) p q o s = reported-answers w h t _ (getD (all-numbers [] (m ∷ ms)) 0 0) p q o refl s
+  reported-question w h t private (m ∷ ms) now p q o s = reported-answers w h t (sequence private (m ∷ ms) now) (getD (all-numbers (m ∷ ms) now) 0 0) p q o refl s
+
+  reported-done : (w h : ℕ) (t : Term) (private : Bool) (ps now : List ℕ) (c : ℕ) → w ≤ 200 → h ≤ 60 → Sound w h t → Reported-fields b n (t .answer) (sequence private ps now) → Reported b (suc n) (done-sequence (back-to-ground t) private (all-numbers ps now) c)
+  reported-done w h t private ps now c p q o s = elim (cases-eq c 110) [
+    | inl e ↦ rw (e, done-report) (pick-both (Reported b (suc n)) private _ _ (reported-quiet (t .answer) (sequence private ps now) (back-to-ground t) s (quiet-ground t _)) (reported-question w h t private ps now p q o s))
+    | inr e ↦ let m : ℕ = suc (asked (sequence private ps now)) in reported-quiet (t .answer) (sequence private ps now) (done-sequence (back-to-ground t) private (all-numbers ps now) c) s
+        (sequence-keeps (Quiet (t .answer) m) (quiet-controls (t .answer) m) (back-to-ground t) private (all-numbers ps now) c (λ x. absurd (e x)) (quiet-ground t m))
+  ]
+
+  module _ (w h : ℕ) (narrow : w ≤ 200) (low : h ≤ 60) where
+    reported-sequence-byte : (t : Term) (private : Bool) (ps now : List ℕ) (c : ℕ) → Sound w h t → Reported-fields b n (t .answer) (sequence private ps now) → Reported b (suc n) (sequence-byte t private ps now c)
+    reported-sequence-byte t private ps now c o s =
+        let R : Term → Type 0 = Reported b (suc n) in
+        let reads : (r : Reading) → R (with-reading t r) = λ r. reported-quiet (t .answer) (sequence private ps now) (with-reading t r) s (record { same = refl; most = omega (arith, asked-most r, asked-sequence private ps now) }) in
+        pick-both R (leb 48 c && leb c 57) _ _ (reads _)
+        (pick-both R (eqb c 59) _ _ (reads _)
+        (pick-both R (eqb c 63) _ _ (pick-both R (none-of ps && (none-of now && not private)) _ _ (reads _) (reads _))
+        (pick-both R (leb 64 c) _ _ (reported-done w h t private ps now c narrow low o s) (reads _))))
+
+    reported-byte-read : (t : Term) (r : Reading) (c : ℕ) → t .reading ≡ r → Sound w h t → Reported-fields b n (t .answer) r → Reported b (suc n) (byte-read t r c)
+    reported-byte-read t ground c e o s = reported-quiet (t .answer) ground (byte-read t ground c) s (quiet-printed (t .answer) 1 t _ (record { same = refl; most = rw e (omega arith) }))
+    reported-byte-read t escape c e o s =
+        reported-quiet (t .answer) escape (byte-read t escape c) s
+        (pick-both (Quiet (t .answer) 2) (eqb c 91) _ _ (record { same = refl; most = omega arith }) (pick-both (Quiet (t .answer) 2) (eqb c 93) _ _ (record { same = refl; most = omega arith })
+        (pick-both (Quiet (t .answer) 2) (leb 32 c && leb c 47) _ _ (record { same = refl; most = omega arith })
+        (escape-keeps (Quiet (t .answer) 2) (quiet-controls (t .answer) 2) (back-to-ground t) c (quiet-ground t 2)))))
+    reported-byte-read t (sequence private ps now) c e o s =
+        pick-both (Reported b (suc n)) (leb 128 c) _ _ (reported-quiet (t .answer) (sequence private ps now) (with-reading t passed) s (record { same = refl; most = omega arith }))
+        (reported-sequence-byte t private ps now c o s)
+    reported-byte-read t passed c e o s =
+        reported-quiet (t .answer) passed (byte-read t passed c) s (pick-both (Quiet (t .answer) 1) (leb 64 c && leb c 126) _ _ (quiet-ground t 1) (record { same = refl; most = rw e (omega arith) }))
+    reported-byte-read t string c e o s = reported-quiet (t .answer) string t s (record { same = refl; most = rw e (omega arith) })
+    reported-byte-read t string-end c e o s =
+        reported-quiet (t .answer) string-end (byte-read t string-end c) s (pick-both (Quiet (t .answer) 1) (eqb c 92) _ _ (quiet-ground t 1) (record { same = refl; most = omega arith }))
+
+    reported-low-byte : (t : Term) (c : ℕ) → Reported b n t → Reported b (suc n) (low-byte t c)
+    unfolding low-byte
+    reported-low-byte t c s =
+        let Q : Term → Type 0 = Quiet (t .answer) (suc (asked (t .reading))) in
+        reported-quiet (t .answer) (t .reading) (low-byte t c) s
+        (pick-both Q (eqb c 27) _ _ (record { same = refl; most = pick-both (λ r. asked r ≤ suc (asked (t .reading))) (is-string (t .reading)) string-end escape (omega arith) (omega arith) })
+        (pick-both Q (is-string (t .reading)) _ _ (pick-both Q (eqb c 7) _ _ (quiet-ground t _) (record { same = refl; most = omega arith }))
+        (pick-both Q (or (eqb c 24) (eqb c 26)) _ _ (quiet-ground t _) (control-keeps Q (quiet-controls (t .answer) _) t c (record { same = refl; most = omega arith })))))
+
+    pub reported-byte : (t : Term) (c : ℕ) → Sound w h t → Reported b n t → Reported b (suc n) (byte t c)
+    unfolding byte
+    reported-byte t c o s =
+        pick-both (Reported b (suc n)) (ltb c 32) _ _ (reported-low-byte t c s)
+        (pick-both (Reported b (suc n)) (eqb c 127) _ _ (reported-quiet (t .answer) (t .reading) t s (record { same = refl; most = omega arith }))
+        (reported-byte-read t (t .reading) c refl o s))
+
+module _ (w h : ℕ) (narrow : w ≤ 200) (low : h ≤ 60) where
+  pub reported-written : (b n : ℕ) (t : Term) (cs : List ℕ) → Sound w h t → Reported b n t → Reported b (n + length cs) (written t cs)
+  unfolding written
+  reported-written b n t [] o s = rw (add-zero n) s
+  reported-written b n t (c ∷ cs) o s =
+      let e : n + length (c ∷ cs) ≡ suc n + length cs = omega arith in
+      rw e (reported-written b (suc n) (byte t c) cs (sound-byte w h t c o) (reported-byte b n w h narrow low t c o s))
+
+  -- of up to 4,096 bytes, wherever the parser stood before
+  pub answer-short : (t : Term) (cs : List ℕ) → Sound w h t → t .answer ≡ [] → length cs ≤ 4096 → (length (written t cs .answer) ≤ 9216) × All (λ x. x < 256) (written t cs .answer)
+  answer-short t cs o e l =
+      let m = asked-most (t .reading) in
+      let r = reported-written 0 (asked (t .reading)) t cs o (record { count = 0; few = rw e (omega arith); paid = omega arith; small = rw e tt }) in
+      (omega arith, r .small)
