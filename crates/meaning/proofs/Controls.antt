@@ -1,8 +1,8 @@
 -- A byte is one of some thirty control functions: what each of them leads to, every byte leads to. The laws about all bytes are proved through this.
-use mathlib.Core.Path.{_≡_, refl}
+use mathlib.Core.Path.{_≡_}
 use mathlib.Core.Bool.{Bool, true, false, _&&_, not}
 use mathlib.Core.List.{List, [], _∷_}
-use Prim.Native.Nat.{ℕ, suc, _+_, _*_, _-_, _/_, _≤_, _<_}
+use Prim.Native.Nat.{ℕ, suc, _+_, _*_, _-_, _/_, _≤_}
 use lib.Dec.{eqb, ltb, leb}
 use lib.ListN.{getD}
 use native.Mathlib.Omega.{arith}

@@ -1,10 +1,10 @@
 -- A fine screen can be drawn, cell by cell, and so can what is written next on it; every byte leaves it so, and so does another size.
 use mathlib.Core.Path.{_≡_, refl}
-use mathlib.Core.Bool.{Bool, true, false, _&&_}
-use mathlib.Core.List.{List, [], _∷_, _++_, map}
-use Prim.Native.Nat.{ℕ, zero, suc, _+_, _-_, _*_, _/_, _%_, _≤_, _<_}
+use mathlib.Core.Bool.{Bool, true, _&&_}
+use mathlib.Core.List.{List, [], _∷_}
+use Prim.Native.Nat.{ℕ, suc, _+_, _-_, _≤_, _<_}
 use lib.Dec.{eqb, ltb, leb}
-use lib.ListN.{length, take, drop, set, replicate}
+use lib.ListN.{set}
 use native.Mathlib.Omega.{arith}
 use Rattle.std.specs.Orderings.{Decides}
 use Rattle.std.specs.shelf.Lists.{All}
@@ -12,7 +12,7 @@ use Rattle.std.proofs.shelf.Elements.{all-append, all-take, all-drop, all-set, 
 use Rattle.std.proofs.shelf.Ways.{tells}
 use Rattle.std.proofs.shelf.Tests.{and-parts, and-from, or-left, ltb-true, leb-true, lt-ltb, le-leb, cond-both}
 use Rattle.meaning.specs.Words.{pick, every, so-many}
-use Rattle.meaning.specs.Screen.{Style, Cell, Saved, Term, blank, blank-row, fresh, at, row-at, with-rows, with-reading, with-answer, with-style, with-modes, with-region, row-on, row-back, change-row, opened, closed, wiped, put-sign, step-right, printed, goes-to, wipe-row, wipe-all, lines-in, lines-out, up-by, down-by, in-region, region, marked, bit-on, bit-off, styled-one, styled, fitted-row, fitted}
+use Rattle.meaning.specs.Screen.{Style, Cell, Term, blank, blank-row, fresh, at, with-rows, with-answer, with-modes, with-region, row-on, row-back, change-row, opened, closed, wiped, put-sign, printed, goes-to, wipe-row, wipe-all, lines-in, lines-out, up-by, down-by, in-region, region, marked, styled-one, styled, fitted-row, fitted}
 use Rattle.meaning.specs.Bytes.{modes, mode-one, answers, byte, written}
 use Rattle.meaning.specs.Laws.{colour, drawable, fine-style, fine-cell, fine-screen, Stays-drawable}
 use Rattle.meaning.proofs.Controls.{Controls, Steps, pick-both, byte-keeps, written-keeps}
@@ -164,6 +164,9 @@ fine-fitted t w h f =
     let kept = all-drop Fine-row (suc (t .row) - h) (t .rows) (f .cells) in
     let cut = all-weaker Fine-row (λ r. Fine-row (fitted-row w r)) (all-fitted-row (λ c. fine-cell c ≡ true) refl w) _ kept in
     record { cells = all-take Fine-row h _ (all-append Fine-row _ _ (all-map Fine-row (fitted-row w) _ cut) (fine-blank-rows h w)); writes = f .writes; saves = refl }
+
+pub fine-answer : (t : Term) (a : List ℕ) → Fine t → Fine (with-answer t a)
+fine-answer t a f = f
 
 fine-controls : Controls Fine
 fine-controls = record {

@@ -1,15 +1,14 @@
 -- What holds of each element, row or cell, still holds after the edits of rows and of cells; and how long the edits leave them.
-use mathlib.Core.Path.{_≡_, refl, sym, _∙_}
-use mathlib.Core.Bool.{Bool, true, false}
-use mathlib.Core.List.{List, [], _∷_, _++_}
+use mathlib.Core.Path.{_≡_, refl}
+use mathlib.Core.Bool.{Bool}
+use mathlib.Core.List.{List, [], _∷_}
 use Prim.Native.Nat.{ℕ, zero, suc, _+_, _-_, _≤_, _<_}
-use lib.Dec.{eqb, ltb, leb}
-use lib.ListN.{length, take, drop, replicate, set, length-append, length-take, length-drop, length-replicate, length-set}
+use lib.ListN.{length, take, drop, replicate, length-append, length-take, length-drop, length-replicate}
 use native.Mathlib.Omega.{arith}
 use Rattle.std.specs.Orderings.{Decides}
 use Rattle.std.specs.shelf.Lists.{All}
-use Rattle.std.proofs.shelf.Elements.{all-append, all-take, all-drop, all-set}
-use Rattle.std.proofs.shelf.Ways.{tells, decides-by-and}
+use Rattle.std.proofs.shelf.Elements.{all-append, all-take, all-drop}
+use Rattle.std.proofs.shelf.Ways.{decides-by-and}
 use Rattle.meaning.specs.Words.{every, so-many, smaller, larger}
 use Rattle.meaning.specs.Screen.{Cell, blank, blank-row, row-at, scrolled-up, scrolled-down, opened, closed, wiped, fitted-row}
 

@@ -1,8 +1,8 @@
 -- How much a terminal reports to the program that writes: a report takes four bytes to ask for (ESC [ 6 n) and is at most nine bytes long.
-use mathlib.Core.Path.{_≡_, refl, sym, subst, _∙_}
+use mathlib.Core.Path.{_≡_, refl}
 use mathlib.Core.Bool.{Bool, true, false, _&&_, not}
 use mathlib.Core.List.{List, [], _∷_, _++_}
-use mathlib.Core.Logic.{_⊎_, inl, inr}
+use mathlib.Core.Logic.{inl, inr}
 use Prim.Native.Nat.{ℕ, zero, suc, _+_, _*_, _-_, _≤_, _<_}
 use lib.Dec.{eqb, ltb, leb}
 use lib.ListN.{length, getD, length-append}
@@ -10,10 +10,10 @@ use native.Mathlib.Nat.{add-zero}
 use native.Mathlib.Omega.{arith}
 use Rattle.std.specs.shelf.Lists.{All}
 use Rattle.std.proofs.shelf.Elements.{all-append}
-use Rattle.std.proofs.shelf.Ways.{tells, decides-ltb, decides-below-and}
-use Rattle.std.proofs.shelf.Tests.{and-parts, leb-true, eqb-true, eqb-false, cond-both, cases-bool, cases-eq}
+use Rattle.std.proofs.shelf.Ways.{decides-ltb, decides-below-and}
+use Rattle.std.proofs.shelf.Tests.{and-parts, leb-true, cases-eq}
 use Rattle.meaning.specs.Words.{pick, or, every, none-of}
-use Rattle.meaning.specs.Screen.{Term, Reading, ground, escape, sequence, passed, string, string-end, at, with-reading, with-modes, with-region, row-on, row-back, put-sign, step-right, printed, goes-to, wipe-row, wipe-all, lines-in, lines-out, in-region, region}
+use Rattle.meaning.specs.Screen.{Term, Reading, ground, escape, sequence, passed, string, string-end, at, with-reading, with-modes, with-region, row-on, put-sign, printed, goes-to, wipe-row, wipe-all, in-region}
 use Rattle.meaning.specs.Bytes.{digits, in-digits, place-told, modes, mode-one, answers, all-numbers, done-sequence, sequence-byte, byte-read, is-string, back-to-ground, low-byte, byte, written}
 use Rattle.meaning.proofs.Controls.{Controls, pick-both, control-keeps, escape-keeps, sequence-keeps}
 use Rattle.meaning.proofs.Edits.{decides-every}
@@ -155,7 +155,8 @@ place-told-short w h t p q s =
     let b = small-digits 3 (suc (t .col)) (from-table (short 3) 201 three-digits (suc (t .col)) (omega arith)) in
     let row : List ℕ = 27 ∷ 91 ∷ in-digits r in
     let col : List ℕ = 59 ∷ in-digits (suc (t .col)) in
-    (simp length-append (omega arith), all-append (λ x. x < 256) (row ++ col) (82 ∷ []) (all-append (λ x. x < 256) row col (omega arith, (omega arith, a .1)) (omega arith, b .1)) (omega arith, tt))
+    let both : Small (row ++ col) = all-append (λ x. x < 256) row col (omega arith, (omega arith, a .1)) (omega arith, b .1) in
+    (simp length-append (omega arith), all-append (λ x. x < 256) (row ++ col) (82 ∷ []) both (omega arith, tt))
 
 -- at most nine bytes a report since the answer was b bytes long, and each report is paid for by four of n bytes
 pub record Reported-fields (b n : ℕ) (answer : List ℕ) (reading : Reading) : Type 0 where
@@ -175,14 +176,6 @@ module _ (b n : ℕ) where
   reported-more a bs r e s h p =
       record { count = suc (s .count); few = rw length-append (omega arith); paid = omega arith; small = all-append (λ x. x < 256) a bs (s .small) p }
 
-  reported-answers : (w h : ℕ) (t : Term) (r : Reading) (k : ℕ) → w ≤ 200 → h ≤ 60 → Sound w h t → asked r ≡ 3 → Reported-fields b n (t .answer) r → Reported b (suc n) (answers (back-to-ground t) k)
-  reported-answers w h t r k p q o e s =
-      let d = place-told-short w h t p q o in
-      pick-both (Reported b (suc n)) (eqb k 6) _ _ (reported-more (t .answer) (place-told t) r e s (d .0) (d .1))
-      (pick-both (Reported b (suc n)) (eqb k 5) _ _
-      (reported-more (t .answer) (27 ∷ 91 ∷ 48 ∷ 110 ∷ []) r e s (omega arith) (omega arith, (omega arith, (omega arith, (omega arith, tt)))))
-      (reported-quiet (t .answer) r (back-to-ground t) s (record { same = refl; most = omega arith })))
-
   -- a control sequence's end: the program is told something only by CSI n, and only after a parameter
   quiet-ground : (t : Term) (m : ℕ) → Quiet (t .answer) m (back-to-ground t)
   quiet-ground t m = record { same = refl; most = omega arith }
@@ -191,58 +184,88 @@ module _ (b n : ℕ) where
   done-report t true ps = refl
   done-report t false ps = refl
 
-  reported-question : (w h : ℕ) (t : Term) (private : Bool) (ps now : List ℕ) → w ≤ 200 → h ≤ 60 → Sound w h t → Reported-fields b n (t .answer) (sequence private ps now) → Reported b (suc n) (answers (back-to-ground t) (getD (all-numbers ps now) 0 0))
-  reported-question w h t private [] [] p q o s = reported-quiet (t .answer) (sequence private [] []) (back-to-ground t) s (quiet-ground t _)
-  reported-question w h t private [] (m ∷ ms) p q o s = reported-answers w h t _ (getD (all-numbers [] (m ∷ ms)) 0 0) p q o refl s
-  reported-question w h t private (m ∷ ms) now p q o s = reported-answers w h t (sequence private (m ∷ ms) now) (getD (all-numbers (m ∷ ms) now) 0 0) p q o refl s
-
-  reported-done : (w h : ℕ) (t : Term) (private : Bool) (ps now : List ℕ) (c : ℕ) → w ≤ 200 → h ≤ 60 → Sound w h t → Reported-fields b n (t .answer) (sequence private ps now) → Reported b (suc n) (done-sequence (back-to-ground t) private (all-numbers ps now) c)
-  reported-done w h t private ps now c p q o s = elim (cases-eq c 110) [
-    | inl e ↦ rw (e, done-report) (pick-both (Reported b (suc n)) private _ _ (reported-quiet (t .answer) (sequence private ps now) (back-to-ground t) s (quiet-ground t _)) (reported-question w h t private ps now p q o s))
-    | inr e ↦ let m : ℕ = suc (asked (sequence private ps now)) in reported-quiet (t .answer) (sequence private ps now) (done-sequence (back-to-ground t) private (all-numbers ps now) c) s
-        (sequence-keeps (Quiet (t .answer) m) (quiet-controls (t .answer) m) (back-to-ground t) private (all-numbers ps now) c (λ x. absurd (e x)) (quiet-ground t m))
-  ]
-
   module _ (w h : ℕ) (narrow : w ≤ 200) (low : h ≤ 60) where
-    reported-sequence-byte : (t : Term) (private : Bool) (ps now : List ℕ) (c : ℕ) → Sound w h t → Reported-fields b n (t .answer) (sequence private ps now) → Reported b (suc n) (sequence-byte t private ps now c)
+    reported-answers : (t : Term) (r : Reading) (k : ℕ) → Sound w h t → asked r ≡ 3 → Reported-fields b n (t .answer) r → Reported b (suc n) (answers (back-to-ground t) k)
+    reported-answers t r k o e s =
+        let R : Term → Type 0 = Reported b (suc n) in
+        let d = place-told-short w h t narrow low o in
+        pick-both R (eqb k 6) _ _ (reported-more (t .answer) (place-told t) r e s (d .0) (d .1))
+        (pick-both R (eqb k 5) _ _
+        (reported-more (t .answer) (27 ∷ 91 ∷ 48 ∷ 110 ∷ []) r e s (omega arith) (omega arith, (omega arith, (omega arith, (omega arith, tt)))))
+        (reported-quiet (t .answer) r (back-to-ground t) s (quiet-ground t (suc (asked r)))))
+
+    reported-question :
+        (t : Term) (private : Bool) (ps now : List ℕ) → Sound w h t → Reported-fields b n (t .answer) (sequence private ps now) →
+        Reported b (suc n) (answers (back-to-ground t) (getD (all-numbers ps now) 0 0))
+    reported-question t private [] [] o s = reported-quiet (t .answer) (sequence private [] []) (back-to-ground t) s (quiet-ground t _)
+    reported-question t private [] (m ∷ ms) o s = reported-answers t (sequence private [] (m ∷ ms)) (getD (all-numbers [] (m ∷ ms)) 0 0) o refl s
+    reported-question t private (m ∷ ms) now o s = reported-answers t (sequence private (m ∷ ms) now) (getD (all-numbers (m ∷ ms) now) 0 0) o refl s
+
+    reported-done :
+        (t : Term) (private : Bool) (ps now : List ℕ) (c : ℕ) → Sound w h t → Reported-fields b n (t .answer) (sequence private ps now) →
+        Reported b (suc n) (done-sequence (back-to-ground t) private (all-numbers ps now) c)
+    reported-done t private ps now c o s =
+        let a : List ℕ = t .answer in
+        let r : Reading = sequence private ps now in
+        let m : ℕ = suc (asked r) in
+        let u : Term = back-to-ground t in
+        elim (cases-eq c 110) [
+          | inl e ↦ rw (e, done-report) (pick-both (Reported b (suc n)) private _ _ (reported-quiet a r u s (quiet-ground t m)) (reported-question t private ps now o s))
+          | inr e ↦ reported-quiet a r (done-sequence u private (all-numbers ps now) c) s
+              (sequence-keeps (Quiet a m) (quiet-controls a m) u private (all-numbers ps now) c (λ x. absurd (e x)) (quiet-ground t m))
+        ]
+
+    reported-sequence-byte :
+        (t : Term) (private : Bool) (ps now : List ℕ) (c : ℕ) → Sound w h t → Reported-fields b n (t .answer) (sequence private ps now) →
+        Reported b (suc n) (sequence-byte t private ps now c)
     reported-sequence-byte t private ps now c o s =
         let R : Term → Type 0 = Reported b (suc n) in
-        let reads : (r : Reading) → R (with-reading t r) = λ r. reported-quiet (t .answer) (sequence private ps now) (with-reading t r) s (record { same = refl; most = omega (arith, asked-most r, asked-sequence private ps now) }) in
+        let reads : (r : Reading) → R (with-reading t r) = λ r.
+        reported-quiet (t .answer) (sequence private ps now) (with-reading t r) s
+        (record { same = refl; most = omega (arith, asked-most r, asked-sequence private ps now) }) in
         pick-both R (leb 48 c && leb c 57) _ _ (reads _)
         (pick-both R (eqb c 59) _ _ (reads _)
         (pick-both R (eqb c 63) _ _ (pick-both R (none-of ps && (none-of now && not private)) _ _ (reads _) (reads _))
-        (pick-both R (leb 64 c) _ _ (reported-done w h t private ps now c narrow low o s) (reads _))))
+        (pick-both R (leb 64 c) _ _ (reported-done t private ps now c o s) (reads _))))
+
+    -- the parser reads r, which is the terminal's own
+    quiet-read : (t : Term) (r : Reading) → t .reading ≡ r → Quiet (t .answer) (suc (asked r)) t
+    quiet-read t r e = record { same = refl; most = rw e (omega arith) }
 
     reported-byte-read : (t : Term) (r : Reading) (c : ℕ) → t .reading ≡ r → Sound w h t → Reported-fields b n (t .answer) r → Reported b (suc n) (byte-read t r c)
-    reported-byte-read t ground c e o s = reported-quiet (t .answer) ground (byte-read t ground c) s (quiet-printed (t .answer) 1 t _ (record { same = refl; most = rw e (omega arith) }))
+    reported-byte-read t ground c e o s = reported-quiet (t .answer) ground (byte-read t ground c) s (quiet-printed (t .answer) 1 t _ (quiet-read t ground e))
     reported-byte-read t escape c e o s =
+        let Q : Term → Type 0 = Quiet (t .answer) 2 in
+        let reads : (r : Reading) → asked r ≤ 2 → Q (with-reading t r) = λ r h. record { same = refl; most = h } in
         reported-quiet (t .answer) escape (byte-read t escape c) s
-        (pick-both (Quiet (t .answer) 2) (eqb c 91) _ _ (record { same = refl; most = omega arith }) (pick-both (Quiet (t .answer) 2) (eqb c 93) _ _ (record { same = refl; most = omega arith })
-        (pick-both (Quiet (t .answer) 2) (leb 32 c && leb c 47) _ _ (record { same = refl; most = omega arith })
-        (escape-keeps (Quiet (t .answer) 2) (quiet-controls (t .answer) 2) (back-to-ground t) c (quiet-ground t 2)))))
+        (pick-both Q (eqb c 91) _ _ (reads _ (omega arith)) (pick-both Q (eqb c 93) _ _ (reads string (omega arith))
+        (pick-both Q (leb 32 c && leb c 47) _ _ (reads passed (omega arith)) (escape-keeps Q (quiet-controls (t .answer) 2) (back-to-ground t) c (quiet-ground t 2)))))
     reported-byte-read t (sequence private ps now) c e o s =
         pick-both (Reported b (suc n)) (leb 128 c) _ _ (reported-quiet (t .answer) (sequence private ps now) (with-reading t passed) s (record { same = refl; most = omega arith }))
         (reported-sequence-byte t private ps now c o s)
     reported-byte-read t passed c e o s =
-        reported-quiet (t .answer) passed (byte-read t passed c) s (pick-both (Quiet (t .answer) 1) (leb 64 c && leb c 126) _ _ (quiet-ground t 1) (record { same = refl; most = rw e (omega arith) }))
-    reported-byte-read t string c e o s = reported-quiet (t .answer) string t s (record { same = refl; most = rw e (omega arith) })
+        reported-quiet (t .answer) passed (byte-read t passed c) s (pick-both (Quiet (t .answer) 1) (leb 64 c && leb c 126) _ _ (quiet-ground t 1) (quiet-read t passed e))
+    reported-byte-read t string c e o s = reported-quiet (t .answer) string t s (quiet-read t string e)
     reported-byte-read t string-end c e o s =
-        reported-quiet (t .answer) string-end (byte-read t string-end c) s (pick-both (Quiet (t .answer) 1) (eqb c 92) _ _ (quiet-ground t 1) (record { same = refl; most = omega arith }))
+        reported-quiet (t .answer) string-end (byte-read t string-end c) s
+        (pick-both (Quiet (t .answer) 1) (eqb c 92) _ _ (quiet-ground t 1) (record { same = refl; most = omega arith }))
 
     reported-low-byte : (t : Term) (c : ℕ) → Reported b n t → Reported b (suc n) (low-byte t c)
     unfolding low-byte
     reported-low-byte t c s =
-        let Q : Term → Type 0 = Quiet (t .answer) (suc (asked (t .reading))) in
+        let m : ℕ = suc (asked (t .reading)) in
+        let Q : Term → Type 0 = Quiet (t .answer) m in
+        let escapes = pick-both (λ r. asked r ≤ m) (is-string (t .reading)) string-end escape (omega arith) (omega arith) in
         reported-quiet (t .answer) (t .reading) (low-byte t c) s
-        (pick-both Q (eqb c 27) _ _ (record { same = refl; most = pick-both (λ r. asked r ≤ suc (asked (t .reading))) (is-string (t .reading)) string-end escape (omega arith) (omega arith) })
-        (pick-both Q (is-string (t .reading)) _ _ (pick-both Q (eqb c 7) _ _ (quiet-ground t _) (record { same = refl; most = omega arith }))
-        (pick-both Q (or (eqb c 24) (eqb c 26)) _ _ (quiet-ground t _) (control-keeps Q (quiet-controls (t .answer) _) t c (record { same = refl; most = omega arith })))))
+        (pick-both Q (eqb c 27) _ _ (record { same = refl; most = escapes })
+        (pick-both Q (is-string (t .reading)) _ _ (pick-both Q (eqb c 7) _ _ (quiet-ground t m) (record { same = refl; most = omega arith }))
+        (pick-both Q (or (eqb c 24) (eqb c 26)) _ _ (quiet-ground t m) (control-keeps Q (quiet-controls (t .answer) m) t c (quiet-read t (t .reading) refl)))))
 
     pub reported-byte : (t : Term) (c : ℕ) → Sound w h t → Reported b n t → Reported b (suc n) (byte t c)
     unfolding byte
     reported-byte t c o s =
         pick-both (Reported b (suc n)) (ltb c 32) _ _ (reported-low-byte t c s)
-        (pick-both (Reported b (suc n)) (eqb c 127) _ _ (reported-quiet (t .answer) (t .reading) t s (record { same = refl; most = omega arith }))
+        (pick-both (Reported b (suc n)) (eqb c 127) _ _ (reported-quiet (t .answer) (t .reading) t s (quiet-read t (t .reading) refl))
         (reported-byte-read t (t .reading) c refl o s))
 
 module _ (w h : ℕ) (narrow : w ≤ 200) (low : h ≤ 60) where

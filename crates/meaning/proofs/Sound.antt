@@ -1,19 +1,18 @@
 -- A sound screen is as large as it says, with its cursor on it and its scroll region within it; every byte leaves it so, and so does another size.
-use mathlib.Core.Path.{_≡_, refl, sym, ap, _∙_}
-use mathlib.Core.Bool.{Bool, true, false, _&&_}
-use mathlib.Core.List.{List, [], _∷_, _++_, map}
-use Prim.Native.Nat.{ℕ, zero, suc, _+_, _-_, _≤_, _<_}
+use mathlib.Core.Path.{_≡_, refl, sym, _∙_}
+use mathlib.Core.Bool.{Bool, true, _&&_}
+use mathlib.Core.List.{List, [], _∷_, _++_}
+use Prim.Native.Nat.{ℕ, suc, _+_, _-_, _≤_, _<_}
 use lib.Dec.{eqb, ltb, leb}
-use lib.ListN.{length, take, drop, set, replicate, length-append, length-take, length-drop, length-replicate, length-set}
+use lib.ListN.{length, take, drop, set, length-append, length-take, length-drop, length-replicate, length-set}
 use native.Mathlib.Omega.{arith}
 use Rattle.std.specs.Orderings.{Decides}
 use Rattle.std.specs.shelf.Lists.{All}
-use Rattle.std.proofs.shelf.Lists.{length-map}
-use Rattle.std.proofs.shelf.Elements.{all-append, all-take, all-drop, all-set, all-map, all-weaker}
+use Rattle.std.proofs.shelf.Elements.{all-append, all-take, all-drop, all-set}
 use Rattle.std.proofs.shelf.Ways.{tells, decides-eqb}
 use Rattle.std.proofs.shelf.Tests.{and-parts, and-from, eqb-true, ltb-true, leb-true, eq-eqb, lt-ltb, le-leb, cond-both}
-use Rattle.meaning.specs.Words.{pick, every, smaller, so-many}
-use Rattle.meaning.specs.Screen.{Cell, Term, Reading, blank, blank-row, fresh, at, row-at, with-rows, with-reading, with-modes, with-region, row-on, row-back, change-row, opened, closed, wiped, put-sign, step-right, printed, goes-to, goes-up, goes-down, wipe-row, wipe-all, lines-in, lines-out, up-by, down-by, scrolled-up, scrolled-down, in-region, region, fitted-row, fitted}
+use Rattle.meaning.specs.Words.{pick, every, each, smaller, so-many}
+use Rattle.meaning.specs.Screen.{Cell, Term, blank, blank-row, fresh, at, with-rows, with-answer, with-modes, with-region, row-on, row-back, change-row, opened, closed, wiped, put-sign, step-right, printed, goes-to, goes-up, goes-down, wipe-row, wipe-all, lines-in, lines-out, up-by, down-by, scrolled-up, scrolled-down, in-region, region, fitted-row, fitted}
 use Rattle.meaning.specs.Bytes.{modes, mode-one, answers, byte, written}
 use Rattle.meaning.specs.Laws.{good, Stays-good}
 use Rattle.meaning.proofs.Controls.{Controls, Steps, pick-both, byte-keeps, written-keeps}
@@ -194,22 +193,24 @@ module _ (w h : ℕ) where
       }
 
   -- whatever the screen was
+  fitted-rows : (rs : List (List Cell)) → As-wide w (each (fitted-row w) rs)
+  fitted-rows [] = tt
+  fitted-rows (r ∷ rs) = (length-fitted-row w r, fitted-rows rs)
+
   pub sound-fitted : (t : Term) → 1 ≤ w → 1 ≤ h → Sound w h (fitted t w h)
   sound-fitted t p q =
+      let L : List Cell → Type 0 = λ r. length r ≡ w in
+      let blanks = all-replicate L h (blank-row w) (length-replicate w blank) in
       record {
         is-wide = refl;
         is-high = refl;
         as-high = simp (length-append, length-take, length-replicate) (omega arith);
-        as-wide = all-take (λ r. length r ≡ w) h _ (all-append (λ r. length r ≡ w) _ _ (all-map (λ r. length r ≡ w) (fitted-row w) _ (every-row (drop (suc (t .row) - h) (t .rows)))) (all-replicate (λ r. length r ≡ w) h (blank-row w) (length-replicate w blank)));
+        as-wide = all-take L h _ (all-append L _ _ (fitted-rows (drop (suc (t .row) - h) (t .rows))) blanks);
         on-row = omega arith;
         on-col = omega arith;
         ordered = omega arith;
         inside = omega arith;
       }
-    where
-      every-row : (rs : List (List Cell)) → All (λ r. length (fitted-row w r) ≡ w) rs
-      every-row [] = tt
-      every-row (r ∷ rs) = (length-fitted-row w r, every-row rs)
 
   sound-reset : (t : Term) → Sound w h t → Sound w h (fresh (t .wide) (t .high))
   sound-reset t s = rw (s .is-wide, s .is-high) (sound-fresh (omega arith) (omega arith))
@@ -250,6 +251,9 @@ module _ (w h : ℕ) where
 
   sound-steps : Steps (Sound w h)
   sound-steps = record { controls = sound-controls; report = sound-report; print = λ t c _ _ s. sound-printed t c s; reads = λ t r s. s }
+
+  pub sound-answer : (t : Term) (a : List ℕ) → Sound w h t → Sound w h (with-answer t a)
+  sound-answer t a s = s
 
   pub sound-byte : (t : Term) (c : ℕ) → Sound w h t → Sound w h (byte t c)
   sound-byte t c s = byte-keeps (Sound w h) sound-steps t c s
