@@ -1,4 +1,4 @@
--- A byte is one of some thirty control functions: what each of them leads to, every byte leads to. The laws about all bytes are proved through this.
+-- A byte is one of some thirty control functions, a report, a character or a step of the parser: what each of these keeps, every byte keeps.
 use mathlib.Core.Path.{_≡_}
 use mathlib.Core.Bool.{Bool, true, false, _&&_, not}
 use mathlib.Core.List.{List, [], _∷_}

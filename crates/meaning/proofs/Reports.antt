@@ -50,7 +50,7 @@ pub record Quiet-fields (a : List ℕ) (m : ℕ) (answer : List ℕ) (reading : 
   pub same : answer ≡ a
   pub most : asked reading ≤ m
 
-abbrev Quiet : List ℕ → ℕ → Term → Type 0
+abbrev pub Quiet : List ℕ → ℕ → Term → Type 0
 Quiet a m t = Quiet-fields a m (t .answer) (t .reading)
 
 module _ (a : List ℕ) (m : ℕ) where
@@ -139,7 +139,7 @@ three-digits : all-below (short 3) 201 ≡ true
 unfolding short digits
 three-digits = refl
 
-abbrev Small : List ℕ → Type 0
+abbrev pub Small : List ℕ → Type 0
 Small bs = All (λ b. b < 256) bs
 
 small-digits : (m n : ℕ) → short m n ≡ true → (length (in-digits n) ≤ m) × Small (in-digits n)
