@@ -2,3 +2,8 @@ pub mod Parts
 pub mod Places
 pub mod Cursor
 pub mod Large
+pub mod Controls
+pub mod Edits
+pub mod Sound
+pub mod Drawable
+pub mod Reports

@@ -6,7 +6,7 @@ use Prim.Native.Nat.{ℕ, zero, suc, _+_, _*_, _-_, _/_, _%_, _≤_, _<_}
 use lib.Dec.{eqb, ltb, leb}
 use lib.ListN.{length, getD, take, drop}
 use Rattle.meaning.specs.Words.{pick, or, every}
-use Rattle.meaning.specs.Screen.{Term, fresh, save, restore, row-on, row-back, at}
+use Rattle.meaning.specs.Screen.{Style, Cell, Term, fresh, save, restore, row-on, row-back, at}
 use Rattle.meaning.specs.Bytes.{byte, written}
 use Rattle.meaning.specs.Panes.{Glass, key, send, turn, current, Layout, places, Rect, Place}
 use Rattle.meaning.specs.Picture.{picture, differs}
@@ -72,3 +72,19 @@ abbrev pub Picture-large : Type 0
 Picture-large =
     (g : Glass) → 1 ≤ g .high →
     (length (picture g) ≡ g .high)
+
+-- a style that can be drawn: marks below 8, colours 0 to 7 or the default
+abbrev pub fine-style : Style → Bool
+fine-style s = ltb (s .marks) 8 && (colour (s .fore) && colour (s .ground))
+
+-- a cell that can be drawn: a printable character in such a style
+abbrev pub fine-cell : Cell → Bool
+fine-cell c = (leb 32 (c .sign) && leb (c .sign) 126) && fine-style (c .style)
+
+-- every cell can be drawn, and so can what is written next: the style in force and the saved one are such styles
+unfoldable pub fine-screen : Term → Bool
+fine-screen t = drawable t && (fine-style (t .style) && fine-style (t .saved .style))
+
+-- Whatever is written on such a screen can be drawn.
+abbrev pub Stays-drawable : Type 0
+Stays-drawable = (t : Term) (c : ℕ) → c < 256 → fine-screen t ≡ true → fine-screen (byte t c) ≡ true

@@ -3,7 +3,7 @@ mod answer;
 
 pub use answer::Reply;
 pub use answer::Told;
-ghost use Rattle.meaning.specs.Laws.{In-parts, Restored, On-and-back, Keys-go, Picture-large, Shared};
+ghost use Rattle.meaning.specs.Laws.{In-parts, Restored, On-and-back, Keys-go, Picture-large, Shared, Stays-good, Stays-drawable};
 
 // Bytes can be written in two parts, cut anywhere.
 pub fn in_parts_stands() -> u8
@@ -43,6 +43,20 @@ pub fn picture_large_stands() -> u8
 // The places of a layout don't overlap and don't stick out.
 pub fn shared_stands() -> u8
     ensures { λ _. ⌜ Shared ⌝ }
+{
+    0
+}
+
+// A screen keeps its size whatever byte is written, and its cursor stays on it.
+pub fn stays_good_stands() -> u8
+    ensures { λ _. ⌜ Stays-good ⌝ }
+{
+    0
+}
+
+// Whatever is written on a screen that can be drawn leaves one that can be drawn.
+pub fn stays_drawable_stands() -> u8
+    ensures { λ _. ⌜ Stays-drawable ⌝ }
 {
     0
 }
