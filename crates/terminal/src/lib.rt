@@ -1,9 +1,11 @@
 // A terminal: the parser of bytes and every control function, over a state by value and cells in lent memory.
+mod csi;
 mod cursor;
 mod edit;
 mod modes;
 mod parameters;
 mod print;
+mod report;
 mod scroll;
 mod sgr;
 pub mod state;
