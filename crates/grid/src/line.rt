@@ -1,0 +1,1 @@
+// Edits within one row.
