@@ -1,3 +1,4 @@
 pub mod Flat
 pub mod Pieces
 pub mod Codes
+pub mod Regions
