@@ -2,3 +2,5 @@ pub mod Flat
 pub mod Pieces
 pub mod Codes
 pub mod Regions
+pub mod Parts
+pub mod Outcomes

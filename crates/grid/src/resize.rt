@@ -1,1 +1,0 @@
-// Another size.
