@@ -7,7 +7,7 @@ use native.Mathlib.Numerals.{add-one}
 use native.Mathlib.Omega.{arith}
 use borrow.Rule.Slice.PartMut.{putMid}
 use lib.ListN.{length, take, drop, replicate}
-use Rattle.std.proofs.shelf.Lists.{append-assoc, length-drop, length-take, length-append, length-replicate, length-map, take-map, drop-map, map-append, take-take}
+use Rattle.std.proofs.shelf.Lists.{append-assoc, append-nil, drop-all, length-drop, length-take, length-append, length-replicate, length-map, take-map, drop-map, map-append, take-take}
 use Rattle.meaning.specs.Screen.{Cell, blank, blank-row, scrolled-up, scrolled-down}
 use Rattle.grid.specs.Cells.{pieces, rows-of, unpacked, blank-number}
 use Rattle.grid.specs.Edits.{rows-blanked}
@@ -108,6 +108,16 @@ rows-filled w h a e xs ys ae eh lx ey =
     let ly : length ys ≡ (e - a) * w = rw ey′ (length-replicate _ _) in
     let u : rows-of w (e - a) ys ≡ replicate (e - a) (blank-row w) = rw ey′ (rows-replicate w (e - a)) in
     rows-region w h a e xs ys ae eh lx ly ∙ rw u (simp append-assoc)
+
+-- blanked down to the last row, from the first row on, and all
+pub blanked-below : (w h a : ℕ) (rs : List (List Cell)) → length rs ≡ h → rows-blanked w rs a h ≡ take a rs ++ replicate (h - a) (blank-row w)
+blanked-below w h a rs l = rw (drop-all h rs (omega arith), append-nil)
+
+pub blanked-above : (w b : ℕ) (rs : List (List Cell)) → rows-blanked w rs 0 b ≡ replicate b (blank-row w) ++ drop b rs
+blanked-above w b rs = let z : b - 0 ≡ b = omega arith in rw z
+
+pub blanked-all : (w h : ℕ) (rs : List (List Cell)) → length rs ≡ h → rows-blanked w rs 0 h ≡ replicate h (blank-row w)
+blanked-all w h rs l = blanked-above w h rs ∙ rw (drop-all h rs (omega arith), append-nil)
 
 -- rows lie within the cells
 pub row-starts-in : (w h e n : ℕ) → n ≡ h * w → e ≤ h → e * w ≤ n
