@@ -1,5 +1,4 @@
 // Another size: the rows of the old one, cut or filled up with blanks, in cells of their own.
-ghost use mathlib.Core.Path.{_≡_};
 ghost use mathlib.Core.Bool.{_&&_};
 ghost use Rattle.grid.specs.Cells.{rows-of};
 ghost use Rattle.grid.specs.Edits.{Edited, on-screen, rows-fitted};

@@ -1,4 +1,4 @@
-use mathlib.Core.Path.{_≡_, refl, _∙_}
+use mathlib.Core.Path.{_∙_}
 use Prim.Native.Nat.{_+_, _*_, _-_}
 use native.Mathlib.Omega.{arith}
 use borrow.Author.Needs.{needs}
@@ -12,11 +12,11 @@ loop-k-holds c = fitted-none (c .args .new-size .wide) (c .args .new-size .high)
 
 pub part-copy-from-slice-end : need.part-copy-from-slice-end
 part-copy-from-slice-end c =
-    row-fits (c .args .new-size .wide) (c .args .new-size .high) (c .loop-k .k) (c .min-wide .result) _ (c .loop-k .kept .new ∙ c .fill .ensures .len ∙ (c .if-new-cells .left ∙ c .cells-else-old-cells .ensures .0)) (omega arith) (omega arith)
+    row-fits (c .args .new-size .wide) (c .args .new-size .high) _ (c .min-wide .result) _ (c .loop-k .kept .new ∙ c .fill .ensures .len ∙ (c .if-new-cells .left ∙ c .cells-else-old-cells .ensures .0)) (omega arith) (omega arith)
 
 pub part-copy-from-slice-end-in-loop-k : need.part-copy-from-slice-end-in-loop-k
 part-copy-from-slice-end-in-loop-k c =
-    row-fits (c .args .old-size .wide) (c .args .old-size .high) (c .args .skip + c .loop-k .k) (c .min-wide .result) _ (c .if-old-cells .left ∙ c .cells .ensures .0) (omega arith) (omega arith)
+    row-fits (c .args .old-size .wide) (c .args .old-size .high) _ (c .min-wide .result) _ (c .if-old-cells .left ∙ c .cells .ensures .0) (omega arith) (omega arith)
 
 pub loop-k-again : need.loop-k-again
 loop-k-again c =
