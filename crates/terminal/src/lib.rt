@@ -2,10 +2,13 @@
 mod csi;
 mod cursor;
 mod edit;
+mod escape;
+mod feed;
 mod modes;
 mod parameters;
 mod print;
 mod report;
 mod scroll;
 mod sgr;
+mod start;
 pub mod state;
