@@ -1,0 +1,10 @@
+// Reading days, what comes, and printing acts, what the machine does; the programs over files share it.
+mod fault;
+mod mode;
+mod text;
+
+pub use fault::Fault;
+pub use fault::FaultFromAlloc;
+pub use fault::FaultFromRefused;
+pub use text::print_text;
+pub use text::read_text;
