@@ -1,1 +1,3 @@
 pub mod Text
+pub mod Acts
+pub mod Added

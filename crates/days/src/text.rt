@@ -5,6 +5,7 @@ ghost use mathlib.Core.List.{_++_};
 ghost use mathlib.Core.Logic.{_⊎_};
 ghost use Prim.Native.Nat.{_<_};
 ghost use Rattle.std.specs.Of.Vec.{vec-items};
+ghost use Rattle.days.specs.Added.{Added};
 ghost use Rattle.std.specs.Options.{Cases as BySome};
 ghost use Rattle.std.specs.Results.{Cases};
 ghost use Rattle.std.specs.Vec.{made, listOf};
@@ -108,7 +109,7 @@ fn is_plain(mode: Mode) -> bool
 }
 
 fn put(out: &mut Vec<u8>, byte: Option<u8>) -> Result<(), AllocError>
-    ensures { λ r. ⌜ made r (λ _. vec-items (now (out .exit)) ≡ vec-items (now (out .entry)) ++ listOf byte) ⌝ }
+    ensures { λ r. ⌜ made r (λ _. Added (vec-items (now (out .entry))) (vec-items (now (out .exit))) (listOf byte)) ⌝ }
 {
     if let Some(b) = byte {
         out.push(b)?;
@@ -143,7 +144,7 @@ fn hex_digit(d: u8) -> u8
 }
 
 fn print_byte(out: &mut Vec<u8>, b: u8) -> Result<(), AllocError>
-    ensures { λ r. ⌜ made r (λ _. vec-items (now (out .exit)) ≡ vec-items (now (out .entry)) ++ escaped-byte b) ⌝ }
+    ensures { λ r. ⌜ made r (λ _. Added (vec-items (now (out .entry))) (vec-items (now (out .exit))) (escaped-byte b)) ⌝ }
 {
     match b {
         b'"' | b'\\' => out.extend_from_slice(&[b'\\', b]),
@@ -154,7 +155,7 @@ fn print_byte(out: &mut Vec<u8>, b: u8) -> Result<(), AllocError>
 
 // Appends the canonical text of the bytes, which is read back as they are. Where memory fails, `out` may have got a part of it.
 pub fn print_text(out: &mut Vec<u8>, bytes: &[u8]) -> Result<(), AllocError>
-    ensures printed { λ r. ⌜ made r (λ _. vec-items (now (out .exit)) ≡ vec-items (now (out .entry)) ++ escaped (now (bytes .entry))) ⌝ }
+    ensures printed { λ r. ⌜ made r (λ _. Added (vec-items (now (out .entry))) (vec-items (now (out .exit))) (escaped (now (bytes .entry)))) ⌝ }
     ensures back { λ _. ⌜ unescaped (escaped (now (bytes .entry))) ≡ Some (now (bytes .entry)) ⌝ }
 {
     for b in bytes {

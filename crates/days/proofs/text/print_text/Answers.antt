@@ -4,11 +4,11 @@ use Rattle.days.proofs.Escapes.{bytes-from-fits, read-back, print-more, print-
 use Rattle.days.proofs.text.print_text.Needs as need
 
 pub loop-b-again : need.loop-b-again
-loop-b-again c = print-more _ _ _ (c .args .bytes .now) _ (c .loop-b-test .taken) (c .in-Continue-print-byte .ensures tt) (c .loop-b .inv)
+loop-b-again c = print-more _ _ _ (c .args .bytes .now) _ (c .loop-b-test .taken) (c .in-Continue-print-byte .ensures tt .all) (c .loop-b .inv)
 
 pub returns : need.returns
 returns c = record {
-  printed = print-done _ _ (c .args .bytes .now) _ (c .loop-b-test .left) (c .loop-b .inv);
+  printed = record { all = print-done _ _ (c .args .bytes .now) _ (c .loop-b-test .left) (c .loop-b .inv) };
   back = read-back _ (bytes-from-fits _ (c .typed .bytes));
 }
 

@@ -7,7 +7,7 @@ use Rattle.days.proofs.text.read_text.Needs as need
 
 pub loop-c-again : need.loop-c-again
 loop-c-again c = (
-  read-more _ (c .args .text .now) (c .loop-c .c-index) _ _ _ (c .loop-c-test .taken) (c .step-next .ensures .mode) (c .step-next .ensures .byte) (c .in-Continue-put .ensures tt) ∙ c .loop-c .inv .0,
+  read-more _ (c .args .text .now) (c .loop-c .c-index) _ _ _ (c .loop-c-test .taken) (c .step-next .ensures .mode) (c .step-next .ensures .byte) (c .in-Continue-put .ensures tt .all) ∙ c .loop-c .inv .0,
   c .step-next .ensures .fits,
 )
 
