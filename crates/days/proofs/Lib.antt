@@ -1,2 +1,4 @@
 pub mod Escapes
 pub mod Joins
+pub mod Cuts
+pub mod Numbers

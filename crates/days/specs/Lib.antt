@@ -1,3 +1,4 @@
 pub mod Text
 pub mod Acts
 pub mod Added
+pub mod Line

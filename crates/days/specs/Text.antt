@@ -6,6 +6,14 @@ use Prim.Native.Nat.{ℕ, _+_, _-_, _*_, _/_, _%_, _<_}
 use lib.Dec.{eqb, ltb, leb}
 use Rattle.std.specs.declared.option.Option.{Option}
 use Rattle.std.specs.declared.option.Option.the-variants.{Some, None}
+use Rattle.std.specs.Of.Vec.{vec-items}
+use Rattle.std.specs.Results.{Cases}
+use Rattle.std.specs.declared.alloc.Global.{Global}
+use Rattle.std.specs.declared.result.Result.{Result}
+use Rattle.std.specs.declared.vec.Vec.{Vec}
+use mathlib.Core.Logic.{_⊎_}
+use Rattle.days.specs.declared.fault.Fault.{Fault}
+use Rattle.days.specs.declared.fault.Fault.the-variants.{Memory, BadText}
 use Rattle.meaning.specs.Words.{pick, or, every}
 use Rattle.days.specs.declared.mode.Mode.{Mode}
 use Rattle.days.specs.declared.mode.Mode.the-variants.{Plain, Slash, Hex, Digit, Bad}
@@ -121,3 +129,7 @@ Digit-fits Slash = Unit {0}
 Digit-fits Hex = Unit {0}
 Digit-fits (Digit v) = v < 16
 Digit-fits Bad = Unit {0}
+
+-- what a reader of text answers: the text, or that it is bad, unless memory fails
+abbrev pub Text-read : Result (Vec ℕ Global) Fault → Option (List ℕ) → Type 0
+Text-read r o = Cases r (λ v. o ≡ Some (vec-items v)) (λ e. (e ≡ Memory) ⊎ ((e ≡ BadText) × (o ≡ None)))

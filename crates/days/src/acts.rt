@@ -1,12 +1,12 @@
 // What the machine does, printed one act a line.
 ghost use mathlib.Core.Path.{_≡_};
 ghost use mathlib.Core.List.{[], _∷_, _++_};
-ghost use lib.ListN.{take};
 ghost use Rattle.std.specs.Of.Vec.{vec-items};
 ghost use Rattle.days.specs.Added.{Added};
 ghost use Rattle.std.specs.Vec.{made};
 ghost use Rattle.std.specs.Written.{decimal};
 ghost use Rattle.days.specs.Acts.{then-number, then-text, sized-line, numbered-line, send-line, write-line, act-line};
+use crate::parts::first;
 use crate::text::print_text;
 use meaning::Told;
 use std::alloc::AllocError;
@@ -61,31 +61,19 @@ fn print_numbered(out: &mut Vec<u8>, word: &[u8], n: u64) -> Result<(), AllocErr
     add(out, b"\n")
 }
 
-// The first bytes, or all where there are not so many.
-fn first(bytes: &[u8], count: u64) -> &[u8]
-    ensures { λ r. ⌜ now r ≡ take count (now (bytes .entry)) ⌝ }
-{
-    if count < bytes.len() as u64 {
-        let n = count as usize;
-        &bytes[0..n]
-    } else {
-        bytes
-    }
-}
-
 fn print_send(out: &mut Vec<u8>, n: u64, bytes: &[u8]) -> Result<(), AllocError>
     ensures { λ r. ⌜ made r (λ _. Added (vec-items (now (out .entry))) (vec-items (now (out .exit))) (send-line n (now (bytes .entry)))) ⌝ }
 {
     add(out, b"send")?;
     then_number(out, n / 65536)?;
-    then_text(out, first(bytes, n % 65536))
+    then_text(out, first(bytes, (n % 65536) as usize))
 }
 
 fn print_write(out: &mut Vec<u8>, n: u64, bytes: &[u8]) -> Result<(), AllocError>
     ensures { λ r. ⌜ made r (λ _. Added (vec-items (now (out .entry))) (vec-items (now (out .exit))) (write-line n (now (bytes .entry)))) ⌝ }
 {
     add(out, b"write")?;
-    then_text(out, first(bytes, n))
+    then_text(out, first(bytes, n as usize))
 }
 
 // Appends the line of an act. Where memory fails, `out` may have got a part of it.

@@ -1,12 +1,17 @@
 // Reading days, what comes, and printing acts, what the machine does; the programs over files share it.
 mod acts;
 mod fault;
+mod line;
 mod mode;
+mod number;
+mod parts;
+mod reading;
 mod text;
 
 pub use acts::print_act;
 pub use fault::Fault;
 pub use fault::FaultFromAlloc;
 pub use fault::FaultFromRefused;
+pub use line::Line;
 pub use text::print_text;
 pub use text::read_text;

@@ -1,18 +1,14 @@
 // Bytes as escaped text, read and printed.
 ghost use mathlib.Core.Path.{_≡_};
 ghost use mathlib.Core.Bool.{true, cond};
-ghost use mathlib.Core.List.{_++_};
-ghost use mathlib.Core.Logic.{_⊎_};
 ghost use Prim.Native.Nat.{_<_};
 ghost use Rattle.std.specs.Of.Vec.{vec-items};
 ghost use Rattle.days.specs.Added.{Added};
 ghost use Rattle.std.specs.Options.{Cases as BySome};
-ghost use Rattle.std.specs.Results.{Cases};
 ghost use Rattle.std.specs.Vec.{made, listOf};
 ghost use Rattle.std.specs.declared.option.Option.the-variants.{Some, None};
-ghost use Rattle.days.specs.declared.fault.Fault.the-variants.{Memory, BadText};
 ghost use Rattle.days.specs.declared.mode.Mode.the-variants.{Plain, Slash, Digit};
-ghost use Rattle.days.specs.Text.{is-hex, hex-value, hex-digit, is-short-escape, short-escape, mode-after, bytes-at, Digit-fits, is-plain, escaped-byte, escaped, unescaped, Read-back, Printed-again};
+ghost use Rattle.days.specs.Text.{is-hex, hex-value, hex-digit, is-short-escape, short-escape, mode-after, bytes-at, Digit-fits, is-plain, escaped-byte, escaped, unescaped, Text-read, Printed-again};
 use crate::fault::Fault;
 use crate::fault::FaultFromAlloc;
 use crate::fault::FaultFromRefused;
@@ -119,7 +115,7 @@ fn put(out: &mut Vec<u8>, byte: Option<u8>) -> Result<(), AllocError>
 
 // The bytes that an escaped text stands for.
 pub fn read_text(heap: Global, text: &[u8]) -> Result<Vec<u8>, Fault>
-    ensures value { λ r. ⌜ Cases r (λ v. unescaped (now (text .entry)) ≡ Some (vec-items v)) (λ e. (e ≡ Memory) ⊎ ((e ≡ BadText) × (unescaped (now (text .entry)) ≡ None))) ⌝ }
+    ensures value { λ r. ⌜ Text-read r (unescaped (now (text .entry))) ⌝ }
     ensures again { λ r. ⌜ made r (λ v. Printed-again (now (text .entry)) (vec-items v)) ⌝ }
 {
     let mut out = Vec::new(heap);
