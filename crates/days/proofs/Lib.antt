@@ -2,3 +2,4 @@ pub mod Escapes
 pub mod Joins
 pub mod Cuts
 pub mod Numbers
+pub mod Sorts

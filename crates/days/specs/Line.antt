@@ -91,15 +91,18 @@ abbrev pub gone-at : Option ℕ → Result Thing Fault
 gone-at None = Err BadNumber
 gone-at (Some p) = Ok (gone p)
 
--- blanks and tabs only, or a comment
-abbrev pub all-blank : List ℕ → Bool
-all-blank cs = every (λ b. or (eqb b 32) (eqb b 9)) cs
-
-abbrev pub passed-over : List ℕ → Bool
-passed-over cs = or (all-blank cs) (eqb (getD cs 0 0) 35)
-
 abbrev pub begins : List ℕ → List ℕ → Bool
 begins cs w = sameBytes (take (length w) cs) w
+
+abbrev pub is-blank : ℕ → Bool
+is-blank b = or (eqb b 32) (eqb b 9)
+
+-- blanks and tabs only, or a comment
+abbrev pub all-blank : List ℕ → Bool
+all-blank cs = every is-blank cs
+
+abbrev pub passed-over : List ℕ → Bool
+passed-over cs = or (all-blank cs) (begins cs (codes "#"))
 
 -- a line without its end
 unfoldable pub line-of : List ℕ → Result Thing Fault

@@ -13,5 +13,6 @@ pub use fault::Fault;
 pub use fault::FaultFromAlloc;
 pub use fault::FaultFromRefused;
 pub use line::Line;
+pub use reading::read_line;
 pub use text::print_text;
 pub use text::read_text;

@@ -15,7 +15,11 @@ pub(crate) fn first(bytes: &[u8], n: usize) -> &[u8]
 pub(crate) fn after(bytes: &[u8], n: usize) -> &[u8]
     ensures { λ r. ⌜ now r ≡ drop (n + 1) (now (bytes .entry)) ⌝ }
 {
-    if n < bytes.len() { &bytes[n + 1..] } else { &[] }
+    if n < bytes.len() {
+        &bytes[n + 1..]
+    } else {
+        &[]
+    }
 }
 
 // How many bytes stand before the first `stop`, or in all.

@@ -1,7 +1,8 @@
 // Reading one line of a day.
 ghost use mathlib.Core.Path.{_≡_};
-ghost use Rattle.std.specs.Of.Vec.{vec-items};
-ghost use Rattle.days.specs.Line.{look-at, keys-at, sent-at, gone-at, number-of, word, behind, quoted, is-quoted, is-size, all-blank, passed-over, begins, line-of, Line-read};
+ghost use lib.Chars.{codes};
+ghost use Rattle.std.specs.shelf.Text.{sameBytes};
+ghost use Rattle.days.specs.Line.{look-at, keys-at, sent-at, gone-at, number-of, word, behind, quoted, is-blank, all-blank, passed-over, begins, line-of, Line-read};
 ghost use Rattle.days.specs.Text.{Text-read};
 use crate::fault::Fault;
 use crate::fault::FaultFromAlloc;
@@ -29,9 +30,17 @@ fn read_quoted(heap: Global, text: &[u8]) -> Result<Vec<u8>, Fault>
 fn look(columns: Option<u64>, rows: Option<u64>) -> Result<Line, Fault>
     ensures { λ r. ⌜ Line-read r (look-at columns rows) ⌝ }
 {
-    let Some(w) = columns else { return Err(Fault::BadNumber) };
-    let Some(h) = rows else { return Err(Fault::BadNumber) };
-    if w >= 1 && w <= 200 && h >= 2 && h <= 60 { Ok(Line::Look(w, h)) } else { Err(Fault::BadSize) }
+    let Some(w) = columns else {
+        return Err(Fault::BadNumber)
+    };
+    let Some(h) = rows else {
+        return Err(Fault::BadNumber)
+    };
+    if w >= 1 && w <= 200 && h >= 2 && h <= 60 {
+        Ok(Line::Look(w, h))
+    } else {
+        Err(Fault::BadSize)
+    }
 }
 
 fn read_look(rest: &[u8]) -> Result<Line, Fault>
@@ -53,9 +62,15 @@ fn read_keys(heap: Global, rest: &[u8]) -> Result<Line, Fault>
 fn from_pane(heap: Global, pane: Option<u64>, text: &[u8]) -> Result<Line, Fault>
     ensures { λ r. ⌜ Line-read r (sent-at pane (quoted (now (text .entry)))) ⌝ }
 {
-    let Some(p) = pane else { return Err(Fault::BadNumber) };
+    let Some(p) = pane else {
+        return Err(Fault::BadNumber)
+    };
     match read_quoted(heap, text) {
-        Ok(bytes) => if bytes.len() <= 4096 { Ok(Line::From(p, bytes)) } else { Err(Fault::TooLong) },
+        Ok(bytes) => if bytes.len() <= 4096 {
+            Ok(Line::From(p, bytes))
+        } else {
+            Err(Fault::TooLong)
+        },
         Err(fault) => Err(fault),
     }
 }
@@ -73,5 +88,61 @@ fn read_gone(rest: &[u8]) -> Result<Line, Fault>
     match read_number(rest) {
         Some(pane) => Ok(Line::Gone(pane)),
         None => Err(Fault::BadNumber),
+    }
+}
+
+fn is_space(b: u8) -> bool
+    ensures { λ r. ⌜ r ≡ is-blank b ⌝ }
+{
+    b == b' ' || b == b'\t'
+}
+
+fn all_spaces(line: &[u8]) -> bool
+    ensures { λ r. ⌜ r ≡ all-blank (now (line .entry)) ⌝ }
+{
+    for b in line {
+        if !is_space(*b) {
+            return false;
+        }
+    }
+    true
+}
+
+fn is_passed_over(line: &[u8]) -> bool
+    ensures { λ r. ⌜ r ≡ passed-over (now (line .entry)) ⌝ }
+{
+    all_spaces(line) || begins_with(line, b"#")
+}
+
+fn begins_with(line: &[u8], word: &[u8]) -> bool
+    ensures { λ r. ⌜ r ≡ begins (now (line .entry)) (now (word .entry)) ⌝ }
+{
+    line.starts_with(word)
+}
+
+fn is_show(line: &[u8]) -> bool
+    ensures { λ r. ⌜ r ≡ sameBytes (now (line .entry)) (codes "show") ⌝ }
+{
+    line == b"show"
+}
+
+// One line of a day, without its end.
+pub fn read_line(heap: Global, line: &[u8]) -> Result<Line, Fault>
+    ensures { λ r. ⌜ Line-read r (line-of (now (line .entry))) ⌝ }
+{
+    if is_passed_over(line) {
+        Ok(Line::Nothing)
+    } else if is_show(line) {
+        Ok(Line::Show)
+    } else if begins_with(line, b"look ") {
+        read_look(after(line, 4))
+    } else if begins_with(line, b"keys ") {
+        read_keys(heap, after(line, 4))
+    } else if begins_with(line, b"from ") {
+        read_from(heap, after(line, 4))
+    } else if begins_with(line, b"gone ") {
+        read_gone(after(line, 4))
+    } else {
+        Err(Fault::UnknownWord)
     }
 }
