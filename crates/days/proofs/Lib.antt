@@ -3,3 +3,4 @@ pub mod Joins
 pub mod Cuts
 pub mod Numbers
 pub mod Sorts
+pub mod Days

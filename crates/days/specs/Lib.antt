@@ -2,3 +2,4 @@ pub mod Text
 pub mod Acts
 pub mod Added
 pub mod Line
+pub mod Day

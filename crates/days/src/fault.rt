@@ -30,3 +30,10 @@ pub impl<T: Drop> From<Refused<T>> for Fault as FaultFromRefused {
         Fault::Memory
     }
 }
+
+// The first line that cannot be read, counted from 1.
+#[derive(Clone, Copy, PartialEq, Debug)]
+pub struct BadDay {
+    pub line: usize,
+    pub fault: Fault,
+}

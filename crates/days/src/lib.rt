@@ -1,5 +1,6 @@
 // Reading days, what comes, and printing acts, what the machine does; the programs over files share it.
 mod acts;
+mod day;
 mod fault;
 mod line;
 mod mode;
@@ -9,6 +10,8 @@ mod reading;
 mod text;
 
 pub use acts::print_act;
+pub use day::read_day;
+pub use fault::BadDay;
 pub use fault::Fault;
 pub use fault::FaultFromAlloc;
 pub use fault::FaultFromRefused;
