@@ -3,3 +3,4 @@ pub mod Acts
 pub mod Added
 pub mod Line
 pub mod Day
+pub mod Messages
