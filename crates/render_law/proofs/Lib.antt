@@ -10,3 +10,5 @@ pub mod Flat
 pub mod Keeps
 pub mod Closes
 pub mod Law
+pub mod Rows
+pub mod Drawn
