@@ -2,3 +2,4 @@ pub mod Start
 pub mod Steady
 pub mod Runs
 pub mod Core
+pub mod Machine
