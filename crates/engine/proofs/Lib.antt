@@ -3,3 +3,4 @@ pub mod Steady
 pub mod Runs
 pub mod Core
 pub mod Machine
+pub mod Pictures

@@ -124,142 +124,142 @@ unfolding wrong
 drawn-still g v p o w = none-nil _ (ap (λ d. d .bytes) (draws g v p o .still w))
 
 module _ (known : ℕ → Bool) (begin : List ℕ) (fits : List ℕ → Bool) (decode : List ℕ → State) (encode : List ℕ → State → List ℕ)
-  (Good : Glass → Type 0) (Room : List ℕ → Type 0)
-  (pictured : (g : Glass) → Good g → looks g ≡ true → Pictured g)
-  (room : (m : List ℕ) (g : Glass) (v : View) → Room m → Good g → Viewed g v → Room (encode m (state g v)))
-  (fit : (m : List ℕ) (g : Glass) (v : View) → Room m → Good g → Viewed g v → fits (encode m (state g v)) ≡ true)
-  (back : (m : List ℕ) (g : Glass) (v : View) → Room m → Good g → Viewed g v → decode (encode m (state g v)) ≡ state g v) where
+  (Good : ℕ → Glass → Type 0) (Room : List ℕ → Type 0)
+  (pictured : (n : ℕ) (g : Glass) → Good n g → looks g ≡ true → Pictured g)
+  (room : (n : ℕ) (m : List ℕ) (g : Glass) (v : View) → Room m → Good n g → Viewed g v → Room (encode m (state g v)))
+  (fit : (n : ℕ) (m : List ℕ) (g : Glass) (v : View) → Room m → Good n g → Viewed g v → fits (encode m (state g v)) ≡ true)
+  (back : (n : ℕ) (m : List ℕ) (g : Glass) (v : View) → Room m → Good n g → Viewed g v → decode (encode m (state g v)) ≡ state g v) where
 
   abbrev pub engine : Engine
   engine = machine-of known begin fits decode encode
 
   -- the memory holds a state
-  pub record Holds (m : List ℕ) (g : Glass) (v : View) : Type 0 where
+  pub record Holds (n : ℕ) (m : List ℕ) (g : Glass) (v : View) : Type 0 where
     pub does-fit : fits m ≡ true
     pub is : decode m ≡ state g v
     pub has-room : Room m
-    pub good : Good g
+    pub good : Good n g
     pub viewed : Viewed g v
 
-  holds-encode : (m : List ℕ) (g : Glass) (v : View) → Room m → Good g → Viewed g v → Holds (encode m (state g v)) g v
-  holds-encode m g v r o w = record { does-fit = fit m g v r o w; is = back m g v r o w; has-room = room m g v r o w; good = o; viewed = w }
+  holds-encode : (n : ℕ) (m : List ℕ) (g : Glass) (v : View) → Room m → Good n g → Viewed g v → Holds n (encode m (state g v)) g v
+  holds-encode n m g v r o w = record { does-fit = fit n m g v r o w; is = back n m g v r o w; has-room = room n m g v r o w; good = o; viewed = w }
 
-  step-is : (m : List ℕ) (g : Glass) (v : View) (told : Told-it) → Holds m g v → engine .step m told ≡ kept encode m (stepped known (state g v) told)
+  step-is : (n : ℕ) (m : List ℕ) (g : Glass) (v : View) (told : Told-it) → Holds n m g v → engine .step m told ≡ kept encode m (stepped known (state g v) told)
   unfolding machine-of
-  step-is m g v told h = cond-true (fits m) _ _ (h .does-fit) ∙ ap (λ (s : State). kept encode m (stepped known s told)) (h .is)
+  step-is n m g v told h = cond-true (fits m) _ _ (h .does-fit) ∙ ap (λ (s : State). kept encode m (stepped known s told)) (h .is)
 
-  step-next : (m : List ℕ) (g : Glass) (v : View) → Holds m g v → engine .step m next ≡ kept encode m (going g v)
+  step-next : (n : ℕ) (m : List ℕ) (g : Glass) (v : View) → Holds n m g v → engine .step m next ≡ kept encode m (going g v)
   unfolding stepped
-  step-next m g v h = step-is m g v next h
+  step-next n m g v h = step-is n m g v next h
 
   -- how a run that shows the picture ends
-  pub record Shown (g : Glass) (ss : List Says) (most : ℕ) (r : Ran) : Type 0 where
+  pub record Shown (n : ℕ) (g : Glass) (ss : List Says) (most : ℕ) (r : Ran) : Type 0 where
     pub view : View
     pub screen : r .screen ≡ screen-of view
-    pub holds : Holds (r .memory) g view
+    pub holds : Holds n (r .memory) g view
     pub said : r .said ≡ ss
     pub bytes : r .bytes ≤ most
     pub shows : Shows g (r .screen)
 
   -- all cells and the cursor right
-  rests : (m : List ℕ) (told : Told-it) (g : Glass) (v : View) (ss : List Says) (b most : ℕ) → engine .step m told ≡ kept encode m (going g v) → Room m → Good g → Viewed g v
-      → looks g ≡ true → wrong g v ≡ 0 → closing g v .bytes ≡ [] → b ≤ most → Comes engine true m told (screen-of v) ss b (Shown g ss most)
+  rests : (n : ℕ) (m : List ℕ) (told : Told-it) (g : Glass) (v : View) (ss : List Says) (b most : ℕ) → engine .step m told ≡ kept encode m (going g v) → Room m → Good n g → Viewed g v
+      → looks g ≡ true → wrong g v ≡ 0 → closing g v .bytes ≡ [] → b ≤ most → Comes engine true m told (screen-of v) ss b (Shown n g ss most)
   unfolding going
-  rests m told g v ss b most e r o w l d c q =
-      let p = pictured g o l in
-      comes-wait engine true (Shown g ss most) m told (screen-of v) ss b (encode m (state g v))
+  rests n m told g v ss b most e r o w l d c q =
+      let p = pictured n g o l in
+      comes-wait engine true (Shown n g ss most) m told (screen-of v) ss b (encode m (state g v))
         (e ∙ ap (kept encode m) (cond-true (looks g) _ _ l ∙ (cond-true (none-of (drawing g v .bytes)) _ _ (drawn-still g v p w d) ∙ cond-true (none-of (closing g v .bytes)) _ _ (none-nil _ c))))
-        (record { view = v; screen = refl; holds = holds-encode m g v r o w; said = refl; bytes = q; shows = rest-shows g v p w d c })
+        (record { view = v; screen = refl; holds = holds-encode n m g v r o w; said = refl; bytes = q; shows = rest-shows g v p w d c })
 
   -- all cells right
-  turns : (m : List ℕ) (told : Told-it) (g : Glass) (v : View) (ss : List Says) (b most : ℕ) → engine .step m told ≡ kept encode m (going g v) → Room m → Good g → Viewed g v
-      → looks g ≡ true → wrong g v ≡ 0 → b + 64 ≤ most → Comes engine true m told (screen-of v) ss b (Shown g ss most)
+  turns : (n : ℕ) (m : List ℕ) (told : Told-it) (g : Glass) (v : View) (ss : List Says) (b most : ℕ) → engine .step m told ≡ kept encode m (going g v) → Room m → Good n g → Viewed g v
+      → looks g ≡ true → wrong g v ≡ 0 → b + 64 ≤ most → Comes engine true m told (screen-of v) ss b (Shown n g ss most)
   unfolding going wrong
-  turns m told g v ss b most e r o w l d q = go (cases-bool (none-of (closing g v .bytes)))
+  turns n m told g v ss b most e r o w l d q = go (cases-bool (none-of (closing g v .bytes)))
     where
-      go : (none-of (closing g v .bytes) ≡ true) ⊎ (none-of (closing g v .bytes) ≡ false) → Comes engine true m told (screen-of v) ss b (Shown g ss most)
-      go (inl c) = rests m told g v ss b most e r o w l d (nil-none _ c) (omega arith)
+      go : (none-of (closing g v .bytes) ≡ true) ⊎ (none-of (closing g v .bytes) ≡ false) → Comes engine true m told (screen-of v) ss b (Shown n g ss most)
+      go (inl c) = rests n m told g v ss b most e r o w l d (nil-none _ c) (omega arith)
       go (inr c) =
-          let p = pictured g o l in
+          let p = pictured n g o l in
           let u = after-closing v (closing g v) in
           let k = closes g v p w in
           let x = closed-viewed g v w in
-          let n = k .few in
-          comes-write engine true (Shown g ss most) m told (screen-of v) ss b (encode m (state g u)) (closing g v .bytes)
+          let few = k .few in
+          comes-write engine true (Shown n g ss most) m told (screen-of v) ss b (encode m (state g u)) (closing g v .bytes)
             (e ∙ ap (kept encode m) (cond-true (looks g) _ _ l ∙ (cond-true (none-of (drawing g v .bytes)) _ _ (drawn-still g v p w d) ∙ cond-false (none-of (closing g v .bytes)) _ _ c)))
             refl (closed-row g v p w)
-            (subst (λ (t : Term). Comes engine true (encode m (state g u)) next t ss (b + length (closing g v .bytes)) (Shown g ss most)) (sym (k .goes))
-              (rests (encode m (state g u)) next g u ss (b + length (closing g v .bytes)) most
-                (step-next _ g u (holds-encode m g u r o x)) (room m g u r o x) o x l d (closed-still g v p w) (omega arith)))
+            (subst (λ (t : Term). Comes engine true (encode m (state g u)) next t ss (b + length (closing g v .bytes)) (Shown n g ss most)) (sym (k .goes))
+              (rests n (encode m (state g u)) next g u ss (b + length (closing g v .bytes)) most
+                (step-next n _ g u (holds-encode n m g u r o x)) (room n m g u r o x) o x l d (closed-still g v p w) (omega arith)))
 
   -- however many cells are wrong
-  shows-all : (fuel : ℕ) (m : List ℕ) (told : Told-it) (g : Glass) (v : View) (ss : List Says) (b most : ℕ) → engine .step m told ≡ kept encode m (going g v) → Room m → Good g → Viewed g v
-      → looks g ≡ true → wrong g v ≤ fuel → b + 64 + 32 * wrong g v ≤ most → Comes engine true m told (screen-of v) ss b (Shown g ss most)
+  shows-all : (n fuel : ℕ) (m : List ℕ) (told : Told-it) (g : Glass) (v : View) (ss : List Says) (b most : ℕ) → engine .step m told ≡ kept encode m (going g v) → Room m → Good n g → Viewed g v
+      → looks g ≡ true → wrong g v ≤ fuel → b + 64 + 32 * wrong g v ≤ most → Comes engine true m told (screen-of v) ss b (Shown n g ss most)
   unfolding going wrong
-  shows-all zero m told g v ss b most e r o w l d q = turns m told g v ss b most e r o w l (omega arith) (omega arith)
-  shows-all (suc n) m told g v ss b most e r o w l d q =
-      go (wrong g v) refl (λ m₁ u b₁. shows-all n m₁ next g u ss b₁ most)
+  shows-all n zero m told g v ss b most e r o w l d q = turns n m told g v ss b most e r o w l (omega arith) (omega arith)
+  shows-all n (suc k) m told g v ss b most e r o w l d q =
+      go (wrong g v) refl (λ m₁ u b₁. shows-all n k m₁ next g u ss b₁ most)
     where
       Later : Type 0
-      Later = (m₁ : List ℕ) (u : View) (b₁ : ℕ) → engine .step m₁ next ≡ kept encode m₁ (going g u) → Room m₁ → Good g → Viewed g u
-          → looks g ≡ true → wrong g u ≤ n → b₁ + 64 + 32 * wrong g u ≤ most → Comes engine true m₁ next (screen-of u) ss b₁ (Shown g ss most)
-      go : (k : ℕ) → wrong g v ≡ k → Later → Comes engine true m told (screen-of v) ss b (Shown g ss most)
-      go zero z later = turns m told g v ss b most e r o w l z (omega arith)
-      go (suc k) z later =
-          let p = pictured g o l in
+      Later = (m₁ : List ℕ) (u : View) (b₁ : ℕ) → engine .step m₁ next ≡ kept encode m₁ (going g u) → Room m₁ → Good n g → Viewed g u
+          → looks g ≡ true → wrong g u ≤ k → b₁ + 64 + 32 * wrong g u ≤ most → Comes engine true m₁ next (screen-of u) ss b₁ (Shown n g ss most)
+      go : (j : ℕ) → wrong g v ≡ j → Later → Comes engine true m told (screen-of v) ss b (Shown n g ss most)
+      go zero z later = turns n m told g v ss b most e r o w l z (omega arith)
+      go (suc j) z later =
+          let p = pictured n g o l in
           let u = after-drawing v (drawing g v) in
           let x = drawn-viewed g v p w in
           let a = draws g v p w in
           let s = a .on (omega arith) (omega arith) in
           let f = a .few in
-          comes-write engine true (Shown g ss most) m told (screen-of v) ss b (encode m (state g u)) (drawing g v .bytes)
+          comes-write engine true (Shown n g ss most) m told (screen-of v) ss b (encode m (state g u)) (drawing g v .bytes)
             (e ∙ ap (kept encode m) (cond-true (looks g) _ _ l ∙ cond-false (none-of (drawing g v .bytes)) _ _ (none-some _ s)))
             refl (drawn-row g v p w)
-            (subst (λ (t : Term). Comes engine true (encode m (state g u)) next t ss (b + length (drawing g v .bytes)) (Shown g ss most)) (sym (a .goes))
-              (later (encode m (state g u)) u (b + length (drawing g v .bytes)) (step-next _ g u (holds-encode m g u r o x)) (room m g u r o x) o x l (omega arith) (omega arith)))
+            (subst (λ (t : Term). Comes engine true (encode m (state g u)) next t ss (b + length (drawing g v .bytes)) (Shown n g ss most)) (sym (a .goes))
+              (later (encode m (state g u)) u (b + length (drawing g v .bytes)) (step-next n _ g u (holds-encode n m g u r o x)) (room n m g u r o x) o x l (omega arith) (omega arith)))
 
   -- how any run ends
-  pub record After (g : Glass) (ss : List Says) (most : ℕ) (r : Ran) : Type 0 where
+  pub record After (n : ℕ) (g : Glass) (ss : List Says) (most : ℕ) (r : Ran) : Type 0 where
     pub view : View
     pub screen : r .screen ≡ screen-of view
-    pub holds : Holds (r .memory) g view
+    pub holds : Holds n (r .memory) g view
     pub said : r .said ≡ ss
     pub seen : looks g ≡ true → (r .bytes ≤ most) × Shows g (r .screen)
     pub unseen : looks g ≡ false → r .bytes ≡ 0
 
-  as-after : (g : Glass) (ss : List Says) (most : ℕ) (r : Ran) → looks g ≡ true → Shown g ss most r → After g ss most r
-  as-after g ss most r l s =
+  as-after : (n : ℕ) (g : Glass) (ss : List Says) (most : ℕ) (r : Ran) → looks g ≡ true → Shown n g ss most r → After n g ss most r
+  as-after n g ss most r l s =
       record { view = s .view; screen = s .screen; holds = s .holds; said = s .said; seen = λ _. (s .bytes, s .shows);
                unseen = λ f. absurd (let z : _≡_ {A = ℕ} 0 1 = cc in omega arith) }
 
   -- going on, from anywhere
-  goes-on : (m : List ℕ) (told : Told-it) (g : Glass) (v : View) (ss : List Says) → engine .step m told ≡ kept encode m (going g v) → Room m → Good g → Viewed g v
-      → Comes engine (g .attached) m told (screen-of v) ss 0 (After g ss (64 + 32 * wrong g v))
+  goes-on : (n : ℕ) (m : List ℕ) (told : Told-it) (g : Glass) (v : View) (ss : List Says) → engine .step m told ≡ kept encode m (going g v) → Room m → Good n g → Viewed g v
+      → Comes engine (g .attached) m told (screen-of v) ss 0 (After n g ss (64 + 32 * wrong g v))
   unfolding going
-  goes-on m told g v ss e r o w = go (cases-bool (looks g))
+  goes-on n m told g v ss e r o w = go (cases-bool (looks g))
     where
       most : ℕ
       most = 64 + 32 * wrong g v
-      go : (looks g ≡ true) ⊎ (looks g ≡ false) → Comes engine (g .attached) m told (screen-of v) ss 0 (After g ss most)
+      go : (looks g ≡ true) ⊎ (looks g ≡ false) → Comes engine (g .attached) m told (screen-of v) ss 0 (After n g ss most)
       go (inl l) =
-          subst (λ (x : Bool). Comes engine x m told (screen-of v) ss 0 (After g ss most)) (sym (and-parts (g .attached) (not (none-of (g .windows))) l .0))
-            (comes-weaker engine true m told (screen-of v) ss 0 (Shown g ss most) (After g ss most) (λ x. as-after g ss most x l)
-              (shows-all (wrong g v) m told g v ss 0 most e r o w l (omega arith) (omega arith)))
+          subst (λ (x : Bool). Comes engine x m told (screen-of v) ss 0 (After n g ss most)) (sym (and-parts (g .attached) (not (none-of (g .windows))) l .0))
+            (comes-weaker engine true m told (screen-of v) ss 0 (Shown n g ss most) (After n g ss most) (λ x. as-after n g ss most x l)
+              (shows-all n (wrong g v) m told g v ss 0 most e r o w l (omega arith) (omega arith)))
       go (inr l) =
-          comes-wait engine (g .attached) (After g ss most) m told (screen-of v) ss 0 (encode m (state g v))
+          comes-wait engine (g .attached) (After n g ss most) m told (screen-of v) ss 0 (encode m (state g v))
             (e ∙ ap (kept encode m) (cond-false (looks g) _ _ l))
-            (record { view = v; screen = refl; holds = holds-encode m g v r o w; said = refl;
+            (record { view = v; screen = refl; holds = holds-encode n m g v r o w; said = refl;
                seen = λ f. absurd (let z : _≡_ {A = ℕ} 0 1 = cc in omega arith); unseen = λ _. refl })
 
   -- a thing that comes: something said, or nothing
-  comes-on : (m : List ℕ) (told : Told-it) (g : Glass) (v : View) (ss : List Says) → engine .step m told ≡ kept encode m (said-or-going g v ss) → length ss ≤ 1 → Room m → Good g → Viewed g v
-      → Comes engine (g .attached) m told (screen-of v) [] 0 (After g ss (64 + 32 * wrong g v))
+  comes-on : (n : ℕ) (m : List ℕ) (told : Told-it) (g : Glass) (v : View) (ss : List Says) → engine .step m told ≡ kept encode m (said-or-going g v ss) → length ss ≤ 1 → Room m → Good n g → Viewed g v
+      → Comes engine (g .attached) m told (screen-of v) [] 0 (After n g ss (64 + 32 * wrong g v))
   unfolding said-or-going
-  comes-on m told g v [] e s r o w = goes-on m told g v [] e r o w
-  comes-on m told g v (x ∷ []) e s r o w =
-      comes-says engine (g .attached) (After g (x ∷ []) (64 + 32 * wrong g v)) m told (screen-of v) [] 0 (encode m (state g v)) x e
-        (goes-on (encode m (state g v)) next g v (x ∷ []) (step-next _ g v (holds-encode m g v r o w)) (room m g v r o w) o w)
-  comes-on m told g v (x ∷ y ∷ ss) e s r o w = absurd (omega arith)
+  comes-on n m told g v [] e s r o w = goes-on n m told g v [] e r o w
+  comes-on n m told g v (x ∷ []) e s r o w =
+      comes-says engine (g .attached) (After n g (x ∷ []) (64 + 32 * wrong g v)) m told (screen-of v) [] 0 (encode m (state g v)) x e
+        (goes-on n (encode m (state g v)) next g v (x ∷ []) (step-next n _ g v (holds-encode n m g v r o w)) (room n m g v r o w) o w)
+  comes-on n m told g v (x ∷ y ∷ ss) e s r o w = absurd (omega arith)
 
   screen-is : (ev : Event) (v : View) → screen-at ev (screen-of v) ≡ screen-of (view-at ev v)
   unfolding screen-at view-at
@@ -268,19 +268,19 @@ module _ (known : ℕ → Bool) (begin : List ℕ) (fits : List ℕ → Bool) (d
   screen-is (gone i) v = refl
   screen-is (attach w h) v = sym (writer-law .begins w h)
 
-  module _ (turn-good : (g : Glass) (ev : Event) → proper-event ev ≡ true → Good g → Good (turn known g ev .next))
-    (turn-viewed : (g : Glass) (v : View) (ev : Event) → proper-event ev ≡ true → Good g → Viewed g v → Viewed (turn known g ev .next) (view-at ev v))
-    (few-says : (g : Glass) (ev : Event) → Good g → length (turn known g ev .says) ≤ 1) where
+  module _ (turn-good : (n : ℕ) (g : Glass) (ev : Event) → proper-event ev ≡ true → Good (suc n) g → Good n (turn known g ev .next))
+    (turn-viewed : (n : ℕ) (g : Glass) (v : View) (ev : Event) → proper-event ev ≡ true → Good n g → Viewed g v → Viewed (turn known g ev .next) (view-at ev v))
+    (few-says : (n : ℕ) (g : Glass) (ev : Event) → Good n g → length (turn known g ev .says) ≤ 1) where
 
-    event-runs : (m : List ℕ) (g : Glass) (v : View) (ev : Event) → proper-event ev ≡ true → Holds m g v
+    event-runs : (n : ℕ) (m : List ℕ) (g : Glass) (v : View) (ev : Event) → proper-event ev ≡ true → Holds (suc n) m g v
         → Comes engine (turn known g ev .next .attached) m (comes ev) (screen-at ev (screen-of v)) [] 0
-          (After (turn known g ev .next) (turn known g ev .says) (64 + 32 * wrong (turn known g ev .next) (view-at ev v)))
+          (After n (turn known g ev .next) (turn known g ev .says) (64 + 32 * wrong (turn known g ev .next) (view-at ev v)))
     unfolding stepped
-    event-runs m g v ev p h =
+    event-runs n m g v ev p h =
         rw (screen-is ev v)
-          (comes-on m (comes ev) (turn known g ev .next) (view-at ev v) (turn known g ev .says)
-            (step-is m g v (comes ev) h ∙ ap (kept encode m) (cond-true (proper-event ev) _ _ p))
-            (few-says g ev (h .good)) (h .has-room) (turn-good g ev p (h .good)) (turn-viewed g v ev p (h .good) (h .viewed)))
+          (comes-on n m (comes ev) (turn known g ev .next) (view-at ev v) (turn known g ev .says)
+            (step-is (suc n) m g v (comes ev) h ∙ ap (kept encode m) (cond-true (proper-event ev) _ _ p))
+            (few-says (suc n) g ev (h .good)) (h .has-room) (turn-good n g ev p (h .good)) (turn-viewed (suc n) g v ev p (h .good) (h .viewed)))
 
     not-over : (g : Glass) → g .attached ≡ true → is-over g ≡ false → looks g ≡ true
     not-over g a b = rw (a, b)
@@ -288,22 +288,22 @@ module _ (known : ℕ → Bool) (begin : List ℕ) (fits : List ℕ → Bool) (d
     is-out : (g : Glass) → is-over g ≡ true → looks g ≡ false
     is-out g a = elim (g .attached) as (λ (x : Bool). (x && not (none-of (g .windows))) ≡ false) [ true ↦ rw a | false ↦ refl ]
 
-    pub all-right : (evs : List Event) (m : List ℕ) (g : Glass) (v : View) (t : Term) → t ≡ screen-of v → every proper-event evs ≡ true → Holds m g v → Right known engine m g t evs
+    pub all-right : (evs : List Event) (m : List ℕ) (g : Glass) (v : View) (t : Term) → t ≡ screen-of v → every proper-event evs ≡ true → Holds (length evs) m g v → Right known engine m g t evs
     unfolding Right
     all-right [] m g v t s p h = refl
     all-right (ev ∷ evs) m g v t s p h =
         let q = and-parts (proper-event ev) _ p in
-        let c = event-runs m g v ev (q .0) h in
+        let c = event-runs (length evs) m g v ev (q .0) h in
         let a = c .so in
         let g₁ = turn known g ev .next in
         let u = view-at ev v in
-        let w = turn-viewed g v ev (q .0) (h .good) (h .viewed) in
+        let w = turn-viewed (suc (length evs)) g v ev (q .0) (h .good) (h .viewed) in
         rw s
           (c .fuel, c .ends, a .said,
             (λ k. let l = not-over g₁ (k .0) (k .1) in
                   let z = a .seen l in
                   let d : differs (screen-at ev (screen-of v) .rows) (picture g₁) ≡ wrong g₁ u =
-                      ap (λ (x : Term). differs (x .rows) (picture g₁)) (screen-is ev v) ∙ wrong-rows g₁ u (pictured g₁ (turn-good g ev (q .0) (h .good)) l) w in
+                      ap (λ (x : Term). differs (x .rows) (picture g₁)) (screen-is ev v) ∙ wrong-rows g₁ u (pictured (length evs) g₁ (turn-good (length evs) g ev (q .0) (h .good)) l) w in
                   (z .1, rw d (z .0))),
             (λ k. let z = a .unseen (is-out g₁ k) in omega arith),
             (λ _. all-right evs _ g₁ (a .view) _ (a .screen) (q .1) (a .holds)))
