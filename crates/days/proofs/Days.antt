@@ -1,6 +1,6 @@
 -- A day is its first line and the rest of it.
 use mathlib.Core.Path.{_≡_, refl, sym, ap, subst, _∙_}
-use mathlib.Core.Bool.{Bool, true, false, cond, not, _&&_}
+use mathlib.Core.Bool.{true, false, not}
 use mathlib.Core.List.{List, [], _∷_, _++_, map, append-nil, append-assoc}
 use mathlib.Core.Logic.{_⊎_, inl, inr, ⊎-elim}
 use Prim.Native.Nat.{ℕ, suc, _+_, _-_, _≤_, _<_}
@@ -8,18 +8,17 @@ use native.Mathlib.Nat.{suc-add}
 use native.Mathlib.Numerals.{one-add}
 use native.Mathlib.Omega.{arith}
 use lib.Dec.{eqb}
-use lib.ListN.{length, getD, take, drop}
+use lib.ListN.{length, take, drop}
 use Rattle.std.specs.Results.{isOk}
 use Rattle.std.specs.declared.result.Result.{Result}
-use Rattle.std.specs.declared.result.Result.the-variants.{Ok, Err}
+use Rattle.std.specs.declared.result.Result.the-variants.{Err}
 use Rattle.std.proofs.shelf.Lists.{length-append, length-map, length-push, map-push, take-at, getD-at}
 use Rattle.std.proofs.shelf.Tests.{cond-true, cond-false, cases-bool}
 use Rattle.meaning.specs.Words.{every}
-use Rattle.days.specs.declared.fault.BadDay.{BadDay}
 use Rattle.days.specs.declared.fault.Fault.{Fault}
 use Rattle.days.specs.declared.fault.Fault.the-variants.{Memory}
 use Rattle.days.specs.declared.line.Line.{Line}
-use Rattle.days.specs.Line.{Thing, nothing, line-of, up-to}
+use Rattle.days.specs.Line.{Thing, line-of, up-to}
 use Rattle.days.specs.Day.{lines-from, lines-of, readings, said, Bad-line}
 
 abbrev Cut : List ℕ → List ℕ → Type 0

@@ -1,11 +1,11 @@
 -- Escaped text: what is printed is read back, and a canonical text that was read is printed again.
 use mathlib.Core.Path.{_≡_, refl, sym, ap, subst, _∙_}
-use mathlib.Core.Bool.{Bool, true, false, cond, _&&_, _||_, not}
+use mathlib.Core.Bool.{true, false, _&&_, _||_, not}
 use mathlib.Core.List.{List, [], _∷_, _++_, append-nil, append-assoc}
 use mathlib.Core.Logic.{_⊎_, inl, inr, ⊎-elim}
-use Prim.Native.Nat.{ℕ, suc, _+_, _-_, _*_, _/_, _%_, _≤_, _<_}
+use Prim.Native.Nat.{ℕ, suc, _+_, _*_, _/_, _%_, _≤_, _<_}
 use native.Mathlib.Omega.{arith}
-use lib.Dec.{eqb, ltb, leb}
+use lib.Dec.{eqb, ltb}
 use lib.ListN.{length, drop, getD}
 use mir.Syntax.{w8}
 use mir.Val.{Fits}
@@ -16,7 +16,7 @@ use Rattle.std.specs.declared.option.Option.{Option}
 use Rattle.std.specs.declared.option.Option.the-variants.{Some, None}
 use Rattle.days.specs.declared.mode.Mode.{Mode}
 use Rattle.days.specs.declared.mode.Mode.the-variants.{Plain, Slash, Hex, Digit, Bad}
-use Rattle.days.specs.Text.{hex-digit, escaped-byte, escaped, is-printable, is-short-escape, is-lower-hex, is-hex, hex-value, mode-after, bytes-at, Reading, read-byte, read-all, start, is-plain, whole-text, unescaped, canonical-after, canonical-from, all-bytes, Read-back, Printed-again, Digit-fits}
+use Rattle.days.specs.Text.{hex-digit, escaped-byte, escaped, is-printable, is-lower-hex, hex-value, mode-after, bytes-at, Reading, read-byte, read-all, start, is-plain, whole-text, canonical-after, canonical-from, all-bytes, Read-back, Printed-again, Digit-fits}
 
 same-reading : {m n : Mode} {xs ys : List ℕ} → m ≡ n → xs ≡ ys → _≡_ {A = Reading} (record { mode = m; bytes = xs }) (record { mode = n; bytes = ys })
 same-reading p q = λ i. record { mode = p i; bytes = q i }

@@ -1,7 +1,7 @@
 -- Which line it is: the tests of a line, one after the other.
-use mathlib.Core.Path.{_≡_, refl, sym, ap, subst, _∙_}
+use mathlib.Core.Path.{_≡_, sym, ap, subst, _∙_}
 use mathlib.Core.Bool.{Bool, true, false, cond, _&&_}
-use mathlib.Core.List.{List, [], _∷_}
+use mathlib.Core.List.{List}
 use Prim.Native.Nat.{ℕ, _+_, _≤_, _<_}
 use lib.Chars.{codes}
 use lib.ListN.{length, getD, take, drop}
@@ -17,7 +17,7 @@ use Rattle.std.proofs.shelf.Ways.{same-from-decides, decides-like}
 use Rattle.days.specs.declared.fault.Fault.{Fault}
 use Rattle.days.specs.declared.fault.Fault.the-variants.{UnknownWord}
 use Rattle.days.specs.declared.line.Line.{Line}
-use Rattle.days.specs.Line.{Thing, show, nothing, is-blank, all-blank, passed-over, begins, word, behind, number-of, quoted, look-at, keys-at, sent-at, gone-at, line-of, Line-read}
+use Rattle.days.specs.Line.{show, nothing, is-blank, all-blank, passed-over, begins, word, behind, number-of, quoted, look-at, keys-at, sent-at, gone-at, line-of, Line-read}
 
 pub blank-stops : (cs : List ℕ) (i : ℕ) → i < length cs → is-blank (getD cs i 0) ≡ false → false ≡ all-blank (drop i cs)
 blank-stops cs i h e = sym (at-drop-more all-blank cs i 0 h ∙ and-left _ _ e)

@@ -7,7 +7,7 @@ use Rattle.days.specs.declared.fault.Fault.the-variants.{Memory, UnknownWord, 
 
 abbrev pub message-of : Fault → List ℕ
 message-of Memory = codes "no memory is left"
-message-of UnknownWord = codes "a line is look, keys, from, gone or show, and what belongs to it behind one blank"
+message-of UnknownWord = codes "look, keys, from, gone or show is wanted"
 message-of BadNumber = codes "a number of one to ten digits is wanted"
 message-of BadSize = codes "a screen has 1 to 200 columns and 2 to 60 rows"
 message-of BadText = codes "a text between quotes is wanted, with the escapes of a day"

@@ -1,6 +1,4 @@
 // What the machine does, printed one act a line.
-ghost use mathlib.Core.Path.{_≡_};
-ghost use mathlib.Core.List.{[], _∷_, _++_};
 ghost use Rattle.std.specs.Of.Vec.{vec-items};
 ghost use Rattle.days.specs.Added.{Added};
 ghost use Rattle.std.specs.Vec.{made};

@@ -1,5 +1,4 @@
 // A whole day, line by line.
-ghost use mathlib.Core.Path.{_≡_};
 ghost use Rattle.std.specs.Of.Vec.{vec-items};
 ghost use Rattle.days.specs.Day.{Day-read, Kept};
 ghost use Rattle.days.specs.Line.{line-of};

@@ -32,7 +32,7 @@ pub impl<T: Drop> From<Refused<T>> for Fault as FaultFromRefused {
 }
 
 // The first line that cannot be read, counted from 1.
-#[derive(Clone, Copy, PartialEq, Debug)]
+#[derive(Clone, Copy)]
 pub struct BadDay {
     pub line: usize,
     pub fault: Fault,

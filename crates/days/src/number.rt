@@ -1,7 +1,5 @@
 // Decimal numbers of a day.
 ghost use mathlib.Core.Path.{_≡_};
-ghost use Prim.Native.Nat.{_<_, _^_};
-ghost use Rattle.std.specs.Options.{Cases as BySome};
 ghost use Rattle.days.specs.Line.{number-of};
 
 // A number of one to ten digits.

@@ -53,10 +53,8 @@ fn read_look(rest: &[u8]) -> Result<Line, Fault>
 fn read_keys(heap: Global, rest: &[u8]) -> Result<Line, Fault>
     ensures { λ r. ⌜ Line-read r (keys-at (quoted (now (rest .entry)))) ⌝ }
 {
-    match read_quoted(heap, rest) {
-        Ok(keys) => Ok(Line::Keys(keys)),
-        Err(fault) => Err(fault),
-    }
+    let keys = read_quoted(heap, rest)?;
+    Ok(Line::Keys(keys))
 }
 
 fn from_pane(heap: Global, pane: Option<u64>, text: &[u8]) -> Result<Line, Fault>
@@ -65,13 +63,11 @@ fn from_pane(heap: Global, pane: Option<u64>, text: &[u8]) -> Result<Line, Fault
     let Some(p) = pane else {
         return Err(Fault::BadNumber)
     };
-    match read_quoted(heap, text) {
-        Ok(bytes) => if bytes.len() <= 4096 {
-            Ok(Line::From(p, bytes))
-        } else {
-            Err(Fault::TooLong)
-        },
-        Err(fault) => Err(fault),
+    let bytes = read_quoted(heap, text)?;
+    if bytes.len() <= 4096 {
+        Ok(Line::From(p, bytes))
+    } else {
+        Err(Fault::TooLong)
     }
 }
 

@@ -8,8 +8,7 @@ pub fn message(fault: Fault) -> &'static str
 {
     match fault {
         Fault::Memory => "no memory is left",
-        Fault::UnknownWord =>
-            "a line is look, keys, from, gone or show, and what belongs to it behind one blank",
+        Fault::UnknownWord => "look, keys, from, gone or show is wanted",
         Fault::BadNumber => "a number of one to ten digits is wanted",
         Fault::BadSize => "a screen has 1 to 200 columns and 2 to 60 rows",
         Fault::BadText => "a text between quotes is wanted, with the escapes of a day",

@@ -73,6 +73,26 @@ mod tests {
     }
 
     #[test]
+    fn long_lines(rt: LibcRuntime) -> Result<(), Fail> {
+        let mut line = b"from 1 \"".to_vec(rt.alloc())?;
+        for _ in 0..4096 {
+            line.push(b'a')?;
+        }
+        line.push(b'"')?;
+        match read_line(rt.alloc(), line.as_slice()) {
+            Ok(Line::From(1, bytes)) => check_eq(bytes.len(), 4096)?,
+            _ => return Err(Fail::new("4096 bytes")),
+        }
+        let _ = line.pop();
+        line.push(b'a')?;
+        line.push(b'"')?;
+        match read_line(rt.alloc(), line.as_slice()) {
+            Ok(_) => Err(Fail::new("4097 bytes")),
+            Err(e) => check_eq(e, Fault::TooLong),
+        }
+    }
+
+    #[test]
     fn good_lines(rt: LibcRuntime) -> Result<(), Fail> {
         let heap = rt.alloc();
         check(matches!(read_line(heap, b"look 1 60")?, Line::Look(1, 60)))?;

@@ -1,4 +1,3 @@
-use mathlib.Core.Path.{sym}
 use Rattle.days.proofs.Sorts.{begins-from-matches}
 use Rattle.days.proofs.reading.begins_with.Needs as need
 

@@ -1,7 +1,7 @@
 use mathlib.Core.Path.{_≡_}
 use lib.ListN.{drop}
 use Rattle.std.specs.Of.Vec.{vec-items}
-use Rattle.days.specs.Text.{Digit-fits, Reading, read-all, start}
+use Rattle.days.specs.Text.{Digit-fits, read-all, start}
 use Rattle.days.proofs.text.read_text.Given as given
 
 abbrev pub Inv-loop-c : given.InvT-loop-c
