@@ -1,6 +1,7 @@
 pub mod Start
 pub mod Steady
 pub mod Runs
+pub mod Areas
 pub mod Core
 pub mod Machine
 pub mod Pictures

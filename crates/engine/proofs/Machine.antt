@@ -57,8 +57,12 @@ drawn-viewed g v p o =
     let e = o .is-wide in let f = o .is-high in
     let k = writer-law .keeps (v .wide) (v .high) go-room (cells-of (picture g)) (v .cells) (v .pen) in
     record {
-      is-wide = e; is-high = f; long = k .long ∙ o .long; small = k .cells (λ x. ltb x (2 ^ 64)) refl (o .small) (p .small);
-      pen = subst (λ (n : ℕ). Fits n (g .high) (drawing g v .pen)) e (subst (λ (n : ℕ). Fits (v .wide) n (drawing g v .pen)) f (k .fits (rw (e, f) (o .pen)) (p .small))) }
+      is-wide = e;
+      is-high = f;
+      long = k .long ∙ o .long;
+      small = k .cells (λ x. ltb x (2 ^ 64)) refl (o .small) (p .small);
+      pen = subst (λ (n : ℕ). Fits n (g .high) (drawing g v .pen)) e (subst (λ (n : ℕ). Fits (v .wide) n (drawing g v .pen)) f (k .fits (rw (e, f) (o .pen)) (p .small)));
+    }
 
 closes : (g : Glass) (v : View) → Pictured g → Viewed g v → Closes (v .wide) (v .high) (spot g .row) (spot g .col) (spot g .shown) (v .cells) (v .pen) (closing g v)
 closes g v p o =
@@ -70,8 +74,12 @@ closed-viewed g v o =
     let e = o .is-wide in let f = o .is-high in
     let k = writer-law .close-fits (v .wide) (v .high) (spot g .row) (spot g .col) (spot g .shown) go-room (v .pen) (rw (e, f) (o .pen)) in
     record {
-      is-wide = e; is-high = f; long = o .long; small = o .small;
-      pen = subst (λ (n : ℕ). Fits n (g .high) (closing g v .pen)) e (subst (λ (n : ℕ). Fits (v .wide) n (closing g v .pen)) f k) }
+      is-wide = e;
+      is-high = f;
+      long = o .long;
+      small = o .small;
+      pen = subst (λ (n : ℕ). Fits n (g .high) (closing g v .pen)) e (subst (λ (n : ℕ). Fits (v .wide) n (closing g v .pen)) f k);
+    }
 
 -- bytes that are none, or some
 nil-none : (bs : List ℕ) → none-of bs ≡ true → bs ≡ []
@@ -106,10 +114,11 @@ unfolding Shows wrong written
 rest-shows g v p o w c =
     let e = o .is-wide in let f = o .is-high in
     let k = closes g v p o in
-    let q : screen-of v ≡ screen-of (after-closing v (closing g v)) = ap (λ bs. written (screen-of v) bs) (sym c) ∙ k .goes in
-    (rw (e, f) (ap (rows-of (g .wide) (g .high)) (writer-law .same (v .cells) (cells-of (picture g)) (o .long ∙ sym (p .long)) w) ∙ p .back),
-     ap (λ (t : Term). t .shown) q ∙ k .seen,
-     λ s. (ap (λ (t : Term). t .row) q ∙ k .place s .0, ap (λ (t : Term). t .col) q ∙ k .place s .1))
+    let q : screen-of v ≡ screen-of (after-closing v (closing g v)) = ap (λ bs. written (screen-of v) bs) (sym c) ∙ k .goes in (
+      rw (e, f) (ap (rows-of (g .wide) (g .high)) (writer-law .same (v .cells) (cells-of (picture g)) (o .long ∙ sym (p .long)) w) ∙ p .back),
+      ap (λ (t : Term). t .shown) q ∙ k .seen,
+      λ s. (ap (λ (t : Term). t .row) q ∙ k .place s .0, ap (λ (t : Term). t .col) q ∙ k .place s .1),
+    )
 
 -- after the closing go there is nothing more to close
 closed-still : (g : Glass) (v : View) → Pictured g → Viewed g v → closing g (after-closing v (closing g v)) .bytes ≡ []
@@ -124,12 +133,11 @@ unfolding wrong
 drawn-still g v p o w = none-nil _ (ap (λ d. d .bytes) (draws g v p o .still w))
 
 module _ (known : ℕ → Bool) (begin : List ℕ) (fits : List ℕ → Bool) (decode : List ℕ → State) (encode : List ℕ → State → List ℕ)
-  (Good : ℕ → Glass → Type 0) (Room : List ℕ → Type 0)
-  (pictured : (n : ℕ) (g : Glass) → Good n g → looks g ≡ true → Pictured g)
-  (room : (n : ℕ) (m : List ℕ) (g : Glass) (v : View) → Room m → Good n g → Viewed g v → Room (encode m (state g v)))
-  (fit : (n : ℕ) (m : List ℕ) (g : Glass) (v : View) → Room m → Good n g → Viewed g v → fits (encode m (state g v)) ≡ true)
-  (back : (n : ℕ) (m : List ℕ) (g : Glass) (v : View) → Room m → Good n g → Viewed g v → decode (encode m (state g v)) ≡ state g v) where
-
+    (Good : ℕ → Glass → Type 0) (Room : List ℕ → Type 0)
+    (pictured : (n : ℕ) (g : Glass) → Good n g → looks g ≡ true → Pictured g)
+    (room : (n : ℕ) (m : List ℕ) (g : Glass) (v : View) → Room m → Good n g → Viewed g v → Room (encode m (state g v)))
+    (fit : (n : ℕ) (m : List ℕ) (g : Glass) (v : View) → Room m → Good n g → Viewed g v → fits (encode m (state g v)) ≡ true)
+    (back : (n : ℕ) (m : List ℕ) (g : Glass) (v : View) → Room m → Good n g → Viewed g v → decode (encode m (state g v)) ≡ state g v) where
   abbrev pub engine : Engine
   engine = machine-of known begin fits decode encode
 
@@ -168,8 +176,8 @@ module _ (known : ℕ → Bool) (begin : List ℕ) (fits : List ℕ → Bool) (d
   rests n m told g v ss b most e r o w l d c q =
       let p = pictured n g o l in
       comes-wait engine true (Shown n g ss most) m told (screen-of v) ss b (encode m (state g v))
-        (e ∙ ap (kept encode m) (cond-true (looks g) _ _ l ∙ (cond-true (none-of (drawing g v .bytes)) _ _ (drawn-still g v p w d) ∙ cond-true (none-of (closing g v .bytes)) _ _ (none-nil _ c))))
-        (record { view = v; screen = refl; holds = holds-encode n m g v r o w; said = refl; bytes = q; shows = rest-shows g v p w d c })
+      (e ∙ ap (kept encode m) (cond-true (looks g) _ _ l ∙ (cond-true (none-of (drawing g v .bytes)) _ _ (drawn-still g v p w d) ∙ cond-true (none-of (closing g v .bytes)) _ _ (none-nil _ c))))
+      (record { view = v; screen = refl; holds = holds-encode n m g v r o w; said = refl; bytes = q; shows = rest-shows g v p w d c })
 
   -- all cells right
   turns : (n : ℕ) (m : List ℕ) (told : Told-it) (g : Glass) (v : View) (ss : List Says) (b most : ℕ) → engine .step m told ≡ kept encode m (going g v) → Room m → Good n g → Viewed g v
@@ -186,11 +194,11 @@ module _ (known : ℕ → Bool) (begin : List ℕ) (fits : List ℕ → Bool) (d
           let x = closed-viewed g v w in
           let few = k .few in
           comes-write engine true (Shown n g ss most) m told (screen-of v) ss b (encode m (state g u)) (closing g v .bytes)
-            (e ∙ ap (kept encode m) (cond-true (looks g) _ _ l ∙ (cond-true (none-of (drawing g v .bytes)) _ _ (drawn-still g v p w d) ∙ cond-false (none-of (closing g v .bytes)) _ _ c)))
-            refl (closed-row g v p w)
-            (subst (λ (t : Term). Comes engine true (encode m (state g u)) next t ss (b + length (closing g v .bytes)) (Shown n g ss most)) (sym (k .goes))
-              (rests n (encode m (state g u)) next g u ss (b + length (closing g v .bytes)) most
-                (step-next n _ g u (holds-encode n m g u r o x)) (room n m g u r o x) o x l d (closed-still g v p w) (omega arith)))
+          (e ∙ ap (kept encode m) (cond-true (looks g) _ _ l ∙ (cond-true (none-of (drawing g v .bytes)) _ _ (drawn-still g v p w d) ∙ cond-false (none-of (closing g v .bytes)) _ _ c)))
+          refl (closed-row g v p w)
+          (subst (λ (t : Term). Comes engine true (encode m (state g u)) next t ss (b + length (closing g v .bytes)) (Shown n g ss most)) (sym (k .goes))
+          (rests n (encode m (state g u)) next g u ss (b + length (closing g v .bytes)) most
+          (step-next n _ g u (holds-encode n m g u r o x)) (room n m g u r o x) o x l d (closed-still g v p w) (omega arith)))
 
   -- however many cells are wrong
   shows-all : (n fuel : ℕ) (m : List ℕ) (told : Told-it) (g : Glass) (v : View) (ss : List Says) (b most : ℕ) → engine .step m told ≡ kept encode m (going g v) → Room m → Good n g → Viewed g v
@@ -203,6 +211,7 @@ module _ (known : ℕ → Bool) (begin : List ℕ) (fits : List ℕ → Bool) (d
       Later : Type 0
       Later = (m₁ : List ℕ) (u : View) (b₁ : ℕ) → engine .step m₁ next ≡ kept encode m₁ (going g u) → Room m₁ → Good n g → Viewed g u
           → looks g ≡ true → wrong g u ≤ k → b₁ + 64 + 32 * wrong g u ≤ most → Comes engine true m₁ next (screen-of u) ss b₁ (Shown n g ss most)
+
       go : (j : ℕ) → wrong g v ≡ j → Later → Comes engine true m told (screen-of v) ss b (Shown n g ss most)
       go zero z later = turns n m told g v ss b most e r o w l z (omega arith)
       go (suc j) z later =
@@ -213,10 +222,10 @@ module _ (known : ℕ → Bool) (begin : List ℕ) (fits : List ℕ → Bool) (d
           let s = a .on (omega arith) (omega arith) in
           let f = a .few in
           comes-write engine true (Shown n g ss most) m told (screen-of v) ss b (encode m (state g u)) (drawing g v .bytes)
-            (e ∙ ap (kept encode m) (cond-true (looks g) _ _ l ∙ cond-false (none-of (drawing g v .bytes)) _ _ (none-some _ s)))
-            refl (drawn-row g v p w)
-            (subst (λ (t : Term). Comes engine true (encode m (state g u)) next t ss (b + length (drawing g v .bytes)) (Shown n g ss most)) (sym (a .goes))
-              (later (encode m (state g u)) u (b + length (drawing g v .bytes)) (step-next n _ g u (holds-encode n m g u r o x)) (room n m g u r o x) o x l (omega arith) (omega arith)))
+          (e ∙ ap (kept encode m) (cond-true (looks g) _ _ l ∙ cond-false (none-of (drawing g v .bytes)) _ _ (none-some _ s)))
+          refl (drawn-row g v p w)
+          (subst (λ (t : Term). Comes engine true (encode m (state g u)) next t ss (b + length (drawing g v .bytes)) (Shown n g ss most)) (sym (a .goes))
+          (later (encode m (state g u)) u (b + length (drawing g v .bytes)) (step-next n _ g u (holds-encode n m g u r o x)) (room n m g u r o x) o x l (omega arith) (omega arith)))
 
   -- how any run ends
   pub record After (n : ℕ) (g : Glass) (ss : List Says) (most : ℕ) (r : Ran) : Type 0 where
@@ -229,8 +238,14 @@ module _ (known : ℕ → Bool) (begin : List ℕ) (fits : List ℕ → Bool) (d
 
   as-after : (n : ℕ) (g : Glass) (ss : List Says) (most : ℕ) (r : Ran) → looks g ≡ true → Shown n g ss most r → After n g ss most r
   as-after n g ss most r l s =
-      record { view = s .view; screen = s .screen; holds = s .holds; said = s .said; seen = λ _. (s .bytes, s .shows);
-               unseen = λ f. absurd (let z : _≡_ {A = ℕ} 0 1 = cc in omega arith) }
+      record {
+        view = s .view;
+        screen = s .screen;
+        holds = s .holds;
+        said = s .said;
+        seen = λ _. (s .bytes, s .shows);
+        unseen = λ f. absurd (let z : _≡_ {A = ℕ} 0 1 = cc in omega arith);
+      }
 
   -- going on, from anywhere
   goes-on : (n : ℕ) (m : List ℕ) (told : Told-it) (g : Glass) (v : View) (ss : List Says) → engine .step m told ≡ kept encode m (going g v) → Room m → Good n g → Viewed g v
@@ -240,16 +255,23 @@ module _ (known : ℕ → Bool) (begin : List ℕ) (fits : List ℕ → Bool) (d
     where
       most : ℕ
       most = 64 + 32 * wrong g v
+
       go : (looks g ≡ true) ⊎ (looks g ≡ false) → Comes engine (g .attached) m told (screen-of v) ss 0 (After n g ss most)
       go (inl l) =
           subst (λ (x : Bool). Comes engine x m told (screen-of v) ss 0 (After n g ss most)) (sym (and-parts (g .attached) (not (none-of (g .windows))) l .0))
-            (comes-weaker engine true m told (screen-of v) ss 0 (Shown n g ss most) (After n g ss most) (λ x. as-after n g ss most x l)
-              (shows-all n (wrong g v) m told g v ss 0 most e r o w l (omega arith) (omega arith)))
+          (comes-weaker engine true m told (screen-of v) ss 0 (Shown n g ss most) (After n g ss most) (λ x. as-after n g ss most x l)
+          (shows-all n (wrong g v) m told g v ss 0 most e r o w l (omega arith) (omega arith)))
       go (inr l) =
           comes-wait engine (g .attached) (After n g ss most) m told (screen-of v) ss 0 (encode m (state g v))
-            (e ∙ ap (kept encode m) (cond-false (looks g) _ _ l))
-            (record { view = v; screen = refl; holds = holds-encode n m g v r o w; said = refl;
-               seen = λ f. absurd (let z : _≡_ {A = ℕ} 0 1 = cc in omega arith); unseen = λ _. refl })
+          (e ∙ ap (kept encode m) (cond-false (looks g) _ _ l))
+          (record {
+            view = v;
+            screen = refl;
+            holds = holds-encode n m g v r o w;
+            said = refl;
+            seen = λ f. absurd (let z : _≡_ {A = ℕ} 0 1 = cc in omega arith);
+            unseen = λ _. refl;
+          })
 
   -- a thing that comes: something said, or nothing
   comes-on : (n : ℕ) (m : List ℕ) (told : Told-it) (g : Glass) (v : View) (ss : List Says) → engine .step m told ≡ kept encode m (said-or-going g v ss) → length ss ≤ 1 → Room m → Good n g → Viewed g v
@@ -258,7 +280,7 @@ module _ (known : ℕ → Bool) (begin : List ℕ) (fits : List ℕ → Bool) (d
   comes-on n m told g v [] e s r o w = goes-on n m told g v [] e r o w
   comes-on n m told g v (x ∷ []) e s r o w =
       comes-says engine (g .attached) (After n g (x ∷ []) (64 + 32 * wrong g v)) m told (screen-of v) [] 0 (encode m (state g v)) x e
-        (goes-on n (encode m (state g v)) next g v (x ∷ []) (step-next n _ g v (holds-encode n m g v r o w)) (room n m g v r o w) o w)
+      (goes-on n (encode m (state g v)) next g v (x ∷ []) (step-next n _ g v (holds-encode n m g v r o w)) (room n m g v r o w) o w)
   comes-on n m told g v (x ∷ y ∷ ss) e s r o w = absurd (omega arith)
 
   screen-is : (ev : Event) (v : View) → screen-at ev (screen-of v) ≡ screen-of (view-at ev v)
@@ -269,18 +291,17 @@ module _ (known : ℕ → Bool) (begin : List ℕ) (fits : List ℕ → Bool) (d
   screen-is (attach w h) v = sym (writer-law .begins w h)
 
   module _ (turn-good : (n : ℕ) (g : Glass) (ev : Event) → proper-event ev ≡ true → Good (suc n) g → Good n (turn known g ev .next))
-    (turn-viewed : (n : ℕ) (g : Glass) (v : View) (ev : Event) → proper-event ev ≡ true → Good n g → Viewed g v → Viewed (turn known g ev .next) (view-at ev v))
-    (few-says : (n : ℕ) (g : Glass) (ev : Event) → Good n g → length (turn known g ev .says) ≤ 1) where
-
+      (turn-viewed : (n : ℕ) (g : Glass) (v : View) (ev : Event) → proper-event ev ≡ true → Good n g → Viewed g v → Viewed (turn known g ev .next) (view-at ev v))
+      (few-says : (n : ℕ) (g : Glass) (ev : Event) → Good n g → length (turn known g ev .says) ≤ 1) where
     event-runs : (n : ℕ) (m : List ℕ) (g : Glass) (v : View) (ev : Event) → proper-event ev ≡ true → Holds (suc n) m g v
         → Comes engine (turn known g ev .next .attached) m (comes ev) (screen-at ev (screen-of v)) [] 0
-          (After n (turn known g ev .next) (turn known g ev .says) (64 + 32 * wrong (turn known g ev .next) (view-at ev v)))
+        (After n (turn known g ev .next) (turn known g ev .says) (64 + 32 * wrong (turn known g ev .next) (view-at ev v)))
     unfolding stepped
     event-runs n m g v ev p h =
         rw (screen-is ev v)
-          (comes-on n m (comes ev) (turn known g ev .next) (view-at ev v) (turn known g ev .says)
-            (step-is (suc n) m g v (comes ev) h ∙ ap (kept encode m) (cond-true (proper-event ev) _ _ p))
-            (few-says (suc n) g ev (h .good)) (h .has-room) (turn-good n g ev p (h .good)) (turn-viewed (suc n) g v ev p (h .good) (h .viewed)))
+        (comes-on n m (comes ev) (turn known g ev .next) (view-at ev v) (turn known g ev .says)
+        (step-is (suc n) m g v (comes ev) h ∙ ap (kept encode m) (cond-true (proper-event ev) _ _ p))
+        (few-says (suc n) g ev (h .good)) (h .has-room) (turn-good n g ev p (h .good)) (turn-viewed (suc n) g v ev p (h .good) (h .viewed)))
 
     not-over : (g : Glass) → g .attached ≡ true → is-over g ≡ false → looks g ≡ true
     not-over g a b = rw (a, b)
@@ -298,12 +319,15 @@ module _ (known : ℕ → Bool) (begin : List ℕ) (fits : List ℕ → Bool) (d
         let g₁ = turn known g ev .next in
         let u = view-at ev v in
         let w = turn-viewed (suc (length evs)) g v ev (q .0) (h .good) (h .viewed) in
-        rw s
-          (c .fuel, c .ends, a .said,
-            (λ k. let l = not-over g₁ (k .0) (k .1) in
-                  let z = a .seen l in
-                  let d : differs (screen-at ev (screen-of v) .rows) (picture g₁) ≡ wrong g₁ u =
-                      ap (λ (x : Term). differs (x .rows) (picture g₁)) (screen-is ev v) ∙ wrong-rows g₁ u (pictured (length evs) g₁ (turn-good (length evs) g ev (q .0) (h .good)) l) w in
-                  (z .1, rw d (z .0))),
-            (λ k. let z = a .unseen (is-out g₁ k) in omega arith),
-            (λ _. all-right evs _ g₁ (a .view) _ (a .screen) (q .1) (a .holds)))
+        rw s (
+          c .fuel,
+          c .ends,
+          a .said,
+          (λ k. let l = not-over g₁ (k .0) (k .1) in
+              let z = a .seen l in
+              let d : differs (screen-at ev (screen-of v) .rows) (picture g₁) ≡ wrong g₁ u =
+              ap (λ (x : Term). differs (x .rows) (picture g₁)) (screen-is ev v) ∙ wrong-rows g₁ u (pictured (length evs) g₁ (turn-good (length evs) g ev (q .0) (h .good)) l) w in
+              (z .1, rw d (z .0))),
+          (λ k. let z = a .unseen (is-out g₁ k) in omega arith),
+          (λ _. all-right evs _ g₁ (a .view) _ (a .screen) (q .1) (a .holds)),
+        )

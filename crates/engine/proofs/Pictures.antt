@@ -24,6 +24,7 @@ use Rattle.grid.specs.Cells.{packed, rows-of, cells-of}
 use Rattle.render_law.specs.Law.{all-fine}
 use Rattle.render_law.proofs.Law.{writer-law}
 use Rattle.render_law.proofs.Rows.{rows-of-cells, length-cells}
+use Rattle.engine.proofs.Areas.{every-append}
 use Rattle.engine.proofs.Core.{One, one-glass, room-of, picture-one}
 use Rattle.engine.proofs.Machine.{Pictured}
 
@@ -55,9 +56,9 @@ put-rows-all w [] pre post l = refl
 put-rows-all w (c ∷ cs) pre post l =
     let rest : Rows = so-many (length cs) (blank-row w) ++ post in
     let e₁ : put-at (pre ++ (blank-row w ∷ rest)) (length pre) (put-row 0 c (row-at (pre ++ (blank-row w ∷ rest)) (length pre))) ≡ pre ++ (c ∷ rest) =
-        ap (λ (z : List Cell). put-at (pre ++ (blank-row w ∷ rest)) (length pre) (put-row 0 c z)) (row-mid pre (blank-row w) rest)
-        ∙ (ap (λ (z : List Cell). put-at (pre ++ (blank-row w ∷ rest)) (length pre) z) (put-row-all c (blank-row w) (l .0 ∙ sym (length-replicate w blank)))
-        ∙ put-mid pre (blank-row w) c rest) in
+    ap (λ (z : List Cell). put-at (pre ++ (blank-row w ∷ rest)) (length pre) (put-row 0 c z)) (row-mid pre (blank-row w) rest)
+    ∙ (ap (λ (z : List Cell). put-at (pre ++ (blank-row w ∷ rest)) (length pre) z) (put-row-all c (blank-row w) (l .0 ∙ sym (length-replicate w blank)))
+    ∙ put-mid pre (blank-row w) c rest) in
     let n : suc (length pre) ≡ length (pre ++ (c ∷ [])) = (let z = length-append pre (c ∷ []) in omega arith) in
     let a : pre ++ (c ∷ rest) ≡ (pre ++ (c ∷ [])) ++ rest = sym (append-assoc pre (c ∷ []) rest) in
     ap (λ (z : Rows). put-rows 0 (suc (length pre)) cs z) (e₁ ∙ a)
@@ -81,9 +82,9 @@ picture-is u o =
     let c : cut (room-of (u .wide) (u .high)) (u .term) ≡ rs = ap (map (take (u .wide))) (take-all (u .high - 1) rs (omega arith)) ∙ cut-all (u .wide) rs (s .as-wide) in
     let h : u .high ≡ suc (length rs) = (let a = o .some-high in omega arith) in
     let b : so-many (u .high) (blank-row (u .wide)) ≡ so-many (length rs) (blank-row (u .wide)) ++ (blank-row (u .wide) ∷ []) =
-        ap (λ (n : ℕ). so-many n (blank-row (u .wide))) h ∙ blank-split (u .wide) (length rs) in
+    ap (λ (n : ℕ). so-many n (blank-row (u .wide))) h ∙ blank-split (u .wide) (length rs) in
     let p : put-rows 0 0 rs (so-many (u .high) (blank-row (u .wide))) ≡ rs ++ (blank-row (u .wide) ∷ []) =
-        ap (λ (z : Rows). put-rows 0 0 rs z) b ∙ put-rows-all (u .wide) rs [] (blank-row (u .wide) ∷ []) (s .as-wide) in
+    ap (λ (z : Rows). put-rows 0 0 rs z) b ∙ put-rows-all (u .wide) rs [] (blank-row (u .wide) ∷ []) (s .as-wide) in
     let l : u .high - 1 ≡ length rs = sym k in
     picture-one u
     ∙ (ap (λ (z : Rows). put-at (put-rows 0 0 z (so-many (u .high) (blank-row (u .wide)))) (u .high - 1) (last-row (one-glass u))) c
@@ -106,9 +107,9 @@ fine-last : (u : One) → Fine-row (last-row (one-glass u))
 fine-last u =
     let P : Cell → Type 0 = λ c. fine-cell c ≡ true in
     all-take P (u .wide) _
-      (all-append P (each turned (window-signs 0 0 (one-glass u .windows))) (so-many (u .wide) (turned 32))
-        (subst (λ (xs : List ℕ). All P (each turned xs)) (sym (signs-one u)) (refl, (refl, (refl, tt))))
-        (all-replicate P (u .wide) (turned 32) refl))
+    (all-append P (each turned (window-signs 0 0 (one-glass u .windows))) (so-many (u .wide) (turned 32))
+    (subst (λ (xs : List ℕ). All P (each turned xs)) (sym (signs-one u)) (refl, (refl, (refl, tt))))
+    (all-replicate P (u .wide) (turned 32) refl))
 
 -- a cell that can be drawn is a number below 2^64
 fine-small : (c : Cell) → fine-cell c ≡ true → ltb (packed c) (2 ^ 64) ≡ true
@@ -125,10 +126,6 @@ fine-small c e =
   where
     below-ten : (k : ℕ) → colour k ≡ true → k < 10
     below-ten k e = grind (arith, tells)
-
-every-append : {A : Type 0} (p : A → Bool) (xs ys : List A) → every p xs ≡ true → every p ys ≡ true → every p (xs ++ ys) ≡ true
-every-append p [] ys e f = f
-every-append p (x ∷ xs) ys e f = let a = and-parts (p x) _ e in and-from (p x) _ (a .0) (every-append p xs ys (a .1) f)
 
 small-row : (r : List Cell) → Fine-row r → every (λ x. ltb x (2 ^ 64)) (map packed r) ≡ true
 small-row [] f = refl
@@ -159,8 +156,8 @@ spot-inside u o e =
     let b = s .on-col in
     let t = u .term in
     subst (λ (z : Spot). (z .row < u .high) × (z .col < u .wide)) (sym (spot-one u))
-      (cond-both ((t .shown) && (ltb (t .row) (u .high - 1) && ltb (t .col) (u .wide))) _ _ (λ (z : Spot). (z .row < u .high) × (z .col < u .wide))
-        (λ _. (omega arith, omega arith)) (λ _. (let c = o .some-high in omega arith, let c = o .some-wide in omega arith)))
+    (cond-both ((t .shown) && (ltb (t .row) (u .high - 1) && ltb (t .col) (u .wide))) _ _ (λ (z : Spot). (z .row < u .high) × (z .col < u .wide))
+    (λ _. (omega arith, omega arith)) (λ _. (let c = o .some-high in omega arith, let c = o .some-wide in omega arith)))
 
 pub pictured-one : (u : One) → Pane-ok u → Pictured (one-glass u)
 pictured-one u o =
@@ -174,9 +171,12 @@ pictured-one u o =
     let l : length (cells-of rs) ≡ u .high * u .wide = length-cells (u .wide) rs w ∙ ap (λ (n : ℕ). n * u .wide) h in
     let b : rows-of (u .wide) (u .high) (cells-of rs) ≡ rs = ap (λ (n : ℕ). rows-of (u .wide) n (cells-of rs)) (sym h) ∙ rows-of-cells (u .wide) rs w e in
     record {
-      some-wide = o .some-wide; wide = o .wide; high = o .high;
+      some-wide = o .some-wide;
+      wide = o .wide;
+      high = o .high;
       long = ap (λ (z : Rows). length (cells-of z)) p ∙ l;
       fine = ap (λ (z : Rows). all-fine (cells-of z)) p ∙ writer-law .fine (u .wide) (u .high) (cells-of rs) l (ap (every (λ r. every fine-cell r)) b ∙ e);
       small = ap (λ (z : Rows). every (λ x. ltb x (2 ^ 64)) (cells-of z)) p ∙ small-cells rs f;
       back = ap (λ (z : Rows). rows-of (u .wide) (u .high) (cells-of z)) p ∙ (b ∙ sym p);
-      inside = spot-inside u o }
+      inside = spot-inside u o;
+    }

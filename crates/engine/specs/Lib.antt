@@ -1,2 +1,3 @@
+pub mod Areas
 pub mod State
 pub mod Own

@@ -67,8 +67,8 @@ unfoldable pub going : Glass → View → Out
 going g v =
     pick (looks g)
     (pick (none-of (drawing g v .bytes))
-      (pick (none-of (closing g v .bytes)) (out g v wait) (out g (after-closing v (closing g v)) (write (closing g v .bytes))))
-      (out g (after-drawing v (drawing g v)) (write (drawing g v .bytes))))
+    (pick (none-of (closing g v .bytes)) (out g v wait) (out g (after-closing v (closing g v)) (write (closing g v .bytes))))
+    (out g (after-drawing v (drawing g v)) (write (drawing g v .bytes))))
     (out g v wait)
 
 -- whoever attaches has a fresh screen
