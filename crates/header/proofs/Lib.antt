@@ -1,0 +1,5 @@
+pub mod Parameters
+pub mod Parts
+pub mod Refused
+pub mod Same
+pub mod Laws
