@@ -1,2 +1,4 @@
 pub mod Start
 pub mod Steady
+pub mod Runs
+pub mod Core

@@ -1,14 +1,13 @@
 -- What moves within a flat list leave.
-use mathlib.Core.Path.{_≡_, refl, sym, ap, _∙_}
-use mathlib.Core.List.{List, [], _∷_, _++_}
-use mathlib.Core.Logic.{_⊎_, inl, inr}
-use Prim.Native.Nat.{ℕ, _+_, _-_, _≤_, _<_, min}
+use mathlib.Core.Path.{_≡_, sym, ap, _∙_}
+use mathlib.Core.List.{List, [], _++_}
+use mathlib.Core.Logic.{inl, inr}
+use Prim.Native.Nat.{ℕ, _+_, _-_, _≤_, min}
 use native.Mathlib.Omega.{arith}
-use borrow.Author.Needs.{needs}
 use borrow.Rule.Slice.PartMut.{putMid}
 use lib.ListN.{length, take, drop, replicate}
 use lib.Seq.{paste}
-use Rattle.std.proofs.shelf.Lists.{drop-all, same-lists, places, length-drop, length-take, length-append, append-nil, drop-drop, take-at, drop-at, take-all}
+use Rattle.std.proofs.shelf.Lists.{drop-all, length-drop, length-take, length-append, append-nil, drop-drop, take-at, drop-at, take-all}
 use Rattle.std.proofs.shelf.Tests.{cases-lt}
 
 pub drop-min : {A : Type 0} (n : ℕ) (s : List A) → drop (min n (length s)) s ≡ drop n s

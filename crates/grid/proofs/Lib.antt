@@ -4,3 +4,4 @@ pub mod Codes
 pub mod Regions
 pub mod Parts
 pub mod Outcomes
+pub mod Fitted

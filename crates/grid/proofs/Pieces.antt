@@ -1,13 +1,13 @@
 -- How a flat list and its pieces go together: what is done to the one, seen on the other.
-use mathlib.Core.Path.{_≡_, refl, sym, ap, _∙_}
-use mathlib.Core.List.{List, [], _∷_, _++_, map}
+use mathlib.Core.Path.{_≡_, refl, ap, _∙_}
+use mathlib.Core.List.{List, [], _∷_, _++_}
 use Prim.Native.Nat.{ℕ, zero, suc, _+_, _*_, _-_, _≤_, _<_, min}
 use native.Mathlib.Nat.{suc-mul, zero-mul, suc-add, zero-add, le-of-suc-le-suc, not-suc-le-zero, mul-le-mul-right, mul-comm, mul-sub}
 use native.Mathlib.Omega.{arith}
 use borrow.Author.Needs.{needs}
 use borrow.Rule.Slice.PartMut.{putMid}
 use lib.ListN.{length, take, drop, replicate, set, getD}
-use Rattle.std.proofs.shelf.Lists.{drop-drop, append-assoc, length-drop, length-take, length-append, length-replicate, take-append-le, drop-append-le, take-replicate, drop-replicate, take-set-le, drop-set-lt, drop-set-add, take-take, drop-take, same-lists, places}
+use Rattle.std.proofs.shelf.Lists.{drop-drop, length-drop, length-take, length-replicate, take-append-le, drop-append-le, take-replicate, drop-replicate, take-set-le, drop-set-lt, drop-set-add, take-take, drop-take, same-lists, places}
 use Rattle.std.proofs.shelf.Parts.{take-putMid-below, drop-putMid}
 use Rattle.grid.specs.Cells.{pieces}
 use Rattle.grid.proofs.Flat.{drop-min}

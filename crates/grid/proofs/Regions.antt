@@ -1,13 +1,17 @@
 -- Whole rows are replaced: what the edits of rows leave.
 use mathlib.Core.Path.{_≡_, refl, sym, ap, _∙_}
+use mathlib.Core.Bool.{true}
 use mathlib.Core.List.{List, [], _∷_, _++_, map}
 use Prim.Native.Nat.{ℕ, zero, suc, _+_, _*_, _-_, _≤_, _<_, min}
-use native.Mathlib.Nat.{mul-le-mul-right, mul-comm, mul-sub}
+use native.Mathlib.Nat.{suc-mul, mul-le-mul-right, mul-comm, mul-sub}
 use native.Mathlib.Numerals.{add-one}
 use native.Mathlib.Omega.{arith}
 use borrow.Rule.Slice.PartMut.{putMid}
+use lib.Dec.{eqb}
 use lib.ListN.{length, take, drop, replicate}
-use Rattle.std.proofs.shelf.Lists.{append-assoc, length-drop, length-take, length-append, length-replicate, length-map, take-map, drop-map, map-append, take-take}
+use Rattle.std.proofs.shelf.Lists.{append-assoc, append-nil, drop-all, length-drop, length-take, length-append, length-replicate, length-map, take-map, drop-map, map-append, take-take}
+use Rattle.std.proofs.shelf.Tests.{eq-eqb}
+use Rattle.meaning.specs.Words.{every}
 use Rattle.meaning.specs.Screen.{Cell, blank, blank-row, scrolled-up, scrolled-down}
 use Rattle.grid.specs.Cells.{pieces, rows-of, unpacked, blank-number}
 use Rattle.grid.specs.Edits.{rows-blanked}
@@ -20,6 +24,20 @@ map-replicate f (suc n) x = ap (λ t. f x ∷ t) (map-replicate f n x)
 pub length-rows : (w h : ℕ) (xs : List ℕ) → length (rows-of w h xs) ≡ h
 unfolding rows-of
 length-rows w h xs = length-pieces w h (map unpacked xs)
+
+pieces-wide : {A : Type 0} (w h : ℕ) (xs : List A) → h * w ≤ length xs → every (λ (r : List A). eqb (length r) w) (pieces w h xs) ≡ true
+unfolding pieces
+pieces-wide w zero xs l = refl
+pieces-wide w (suc h) xs l =
+    let f : suc h * w ≡ w + h * w = suc-mul h w ∙ omega arith in
+    let t : length (take w xs) ≡ w = simp length-take (omega arith) in
+    let d : h * w ≤ length (drop w xs) = simp length-drop (omega arith) in
+    rw (eq-eqb (length (take w xs)) w t) (pieces-wide w h (drop w xs) d)
+
+-- every row is as wide as the screen
+pub rows-wide : (w h : ℕ) (xs : List ℕ) → length xs ≡ h * w → every (λ (r : List Cell). eqb (length r) w) (rows-of w h xs) ≡ true
+unfolding rows-of
+rows-wide w h xs l = pieces-wide w h (map unpacked xs) (rw length-map (omega arith))
 
 pub rows-replicate : (w h : ℕ) → rows-of w h (replicate (h * w) blank-number) ≡ replicate h (blank-row w)
 unfolding rows-of
@@ -108,6 +126,16 @@ rows-filled w h a e xs ys ae eh lx ey =
     let ly : length ys ≡ (e - a) * w = rw ey′ (length-replicate _ _) in
     let u : rows-of w (e - a) ys ≡ replicate (e - a) (blank-row w) = rw ey′ (rows-replicate w (e - a)) in
     rows-region w h a e xs ys ae eh lx ly ∙ rw u (simp append-assoc)
+
+-- blanked down to the last row, from the first row on, and all
+pub blanked-below : (w h a : ℕ) (rs : List (List Cell)) → length rs ≡ h → rows-blanked w rs a h ≡ take a rs ++ replicate (h - a) (blank-row w)
+blanked-below w h a rs l = rw (drop-all h rs (omega arith), append-nil)
+
+pub blanked-above : (w b : ℕ) (rs : List (List Cell)) → rows-blanked w rs 0 b ≡ replicate b (blank-row w) ++ drop b rs
+blanked-above w b rs = let z : b - 0 ≡ b = omega arith in rw z
+
+pub blanked-all : (w h : ℕ) (rs : List (List Cell)) → length rs ≡ h → rows-blanked w rs 0 h ≡ replicate h (blank-row w)
+blanked-all w h rs l = blanked-above w h rs ∙ rw (drop-all h rs (omega arith), append-nil)
 
 -- rows lie within the cells
 pub row-starts-in : (w h e n : ℕ) → n ≡ h * w → e ≤ h → e * w ≤ n

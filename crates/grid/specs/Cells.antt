@@ -1,6 +1,8 @@
 -- How a flat list of numbers, row after row, stands for a screen's rows. One number is one cell, and every number below 2^64 is one.
+use mathlib.Core.Bool.{Bool, _&&_}
 use mathlib.Core.List.{List, [], _∷_, _++_, map}
 use Prim.Native.Nat.{ℕ, zero, suc, _+_, _*_, _/_, _%_, _^_}
+use lib.Dec.{ltb}
 use lib.ListN.{take, drop}
 use Rattle.meaning.specs.Screen.{Style, Cell}
 use Rattle.grid.specs.declared.cell.Rendition.{Rendition}
@@ -12,6 +14,10 @@ packed c = c .sign + 2 ^ 32 * c .style .marks + 2 ^ 48 * c .style .fore + 2 ^ 56
 
 abbrev pub unpacked : ℕ → Cell
 unpacked n = record { sign = n % 2 ^ 32; style = record { marks = n / 2 ^ 32 % 2 ^ 16; fore = n / 2 ^ 48 % 2 ^ 8; ground = n / 2 ^ 56 } }
+
+-- can this cell be packed and unpacked without loss?
+abbrev pub cell-fits : Cell → Bool
+cell-fits c = ltb (c .sign) (2 ^ 32) && (ltb (c .style .marks) (2 ^ 16) && ltb (c .style .fore) (2 ^ 8))
 
 -- the number of a blank cell
 abbrev pub blank-number : ℕ

@@ -1,5 +1,4 @@
 // Edits within one row. Columns count from 0.
-ghost use mathlib.Core.Path.{_≡_};
 ghost use mathlib.Core.Bool.{_&&_};
 ghost use lib.Dec.{ltb};
 ghost use Rattle.meaning.specs.Words.{put-at};

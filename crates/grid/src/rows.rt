@@ -1,5 +1,4 @@
 // Edits of whole rows. Rows count from 0, the first is the upper one.
-ghost use mathlib.Core.Path.{_≡_};
 ghost use mathlib.Core.Bool.{_&&_};
 ghost use lib.Dec.{ltb, leb};
 ghost use Rattle.meaning.specs.Screen.{scrolled-up, scrolled-down};

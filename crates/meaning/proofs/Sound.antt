@@ -35,7 +35,7 @@ pub record Sound-fields (w h wide high : ℕ) (rows : List (List Cell)) (row col
 abbrev pub Sound : ℕ → ℕ → Term → Type 0
 Sound w h t = Sound-fields w h (t .wide) (t .high) (t .rows) (t .row) (t .col) (t .top) (t .bottom)
 
-rows-decide : (w : ℕ) (rs : List (List Cell)) → Decides (every (λ r. eqb (length r) w) rs) (As-wide w rs)
+pub rows-decide : (w : ℕ) (rs : List (List Cell)) → Decides (every (λ r. eqb (length r) w) rs) (As-wide w rs)
 rows-decide w rs = decides-every (λ r. eqb (length r) w) (λ r. length r ≡ w) (λ r. decides-eqb (length r) w) rs
 
 module _ (w h : ℕ) where

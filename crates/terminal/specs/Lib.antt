@@ -1,1 +1,4 @@
 pub mod Terms
+pub mod Parsing
+pub mod Answer
+pub mod Sizes

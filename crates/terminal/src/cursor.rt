@@ -1,29 +1,18 @@
 // Control functions that move the cursor, set the scroll region, or save and restore. Cells and answers stay, whatever they are.
 ghost use mathlib.Core.Path.{_≡_};
 ghost use mathlib.Core.List.{List};
-ghost use Prim.Native.Nat.{ℕ, suc, _+_, _-_, _*_, _/_, _<_};
+ghost use Prim.Native.Nat.{ℕ, suc, _+_, _-_, _*_, _/_};
 ghost use Rattle.meaning.specs.Words.{smaller};
-ghost use Rattle.meaning.specs.Screen.{Cell, at, goes-up, goes-down, goes-to, region, save, restore};
-ghost use Rattle.terminal.specs.Terms.{term-of};
+ghost use Rattle.meaning.specs.Screen.{at, goes-up, goes-down, goes-to, region, save, restore};
+ghost use Rattle.terminal.specs.Terms.{term-on};
 use crate::state::Cursor;
 use crate::state::Kept;
 use crate::state::Terminal;
 
 impl Terminal {
-    pub(crate) fn move_to(&mut self, row: usize, col: usize)
-        requires { ⌜ row < now self .size .high ⌝ ∗ ⌜ col < now self .size .wide ⌝ }
-        ensures { λ _. ⌜ ((rs : List (List Cell)) (a : List ℕ) → term-of (now (self .exit)) rs a ≡ at (term-of (now (self .entry)) rs a) row col) ⌝ }
-    {
-        self.cursor = Cursor {
-            row,
-            col,
-            pending: false,
-        };
-    }
-
     // BS
     pub(crate) fn backspace(&mut self)
-        ensures { λ _. ⌜ ((rs : List (List Cell)) (a : List ℕ) → term-of (now (self .exit)) rs a ≡ at (term-of (now (self .entry)) rs a) (now (self .entry) .cursor .row) (now (self .entry) .cursor .col - 1)) ⌝ }
+        ensures { λ _. ⌜ ((xs a : List ℕ) → term-on (now (self .exit)) xs a ≡ at (term-on (now (self .entry)) xs a) (now (self .entry) .cursor .row) (now (self .entry) .cursor .col - 1)) ⌝ }
     {
         let Cursor { row, col, .. } = self.cursor;
         self.cursor = Cursor {
@@ -35,7 +24,7 @@ impl Terminal {
 
     // HT
     pub(crate) fn horizontal_tab(&mut self)
-        ensures { λ _. ⌜ ((rs : List (List Cell)) (a : List ℕ) → term-of (now (self .exit)) rs a ≡ at (term-of (now (self .entry)) rs a) (now (self .entry) .cursor .row) (smaller (now (self .entry) .size .wide - 1) (8 * suc (now (self .entry) .cursor .col / 8)))) ⌝ }
+        ensures { λ _. ⌜ ((xs a : List ℕ) → term-on (now (self .exit)) xs a ≡ at (term-on (now (self .entry)) xs a) (now (self .entry) .cursor .row) (smaller (now (self .entry) .size .wide - 1) (8 * suc (now (self .entry) .cursor .col / 8)))) ⌝ }
     {
         let Cursor { row, col, .. } = self.cursor;
         let next = 8 * (col / 8 + 1);
@@ -48,7 +37,7 @@ impl Terminal {
 
     // CR
     pub(crate) fn carriage_return(&mut self)
-        ensures { λ _. ⌜ ((rs : List (List Cell)) (a : List ℕ) → term-of (now (self .exit)) rs a ≡ at (term-of (now (self .entry)) rs a) (now (self .entry) .cursor .row) 0) ⌝ }
+        ensures { λ _. ⌜ ((xs a : List ℕ) → term-on (now (self .exit)) xs a ≡ at (term-on (now (self .entry)) xs a) (now (self .entry) .cursor .row) 0) ⌝ }
     {
         self.cursor = Cursor {
             row: self.cursor.row,
@@ -59,7 +48,7 @@ impl Terminal {
 
     // CUU
     pub(crate) fn cursor_up(&mut self, k: usize)
-        ensures { λ _. ⌜ ((rs : List (List Cell)) (a : List ℕ) → term-of (now (self .exit)) rs a ≡ goes-up (term-of (now (self .entry)) rs a) k) ⌝ }
+        ensures { λ _. ⌜ ((xs a : List ℕ) → term-on (now (self .exit)) xs a ≡ goes-up (term-on (now (self .entry)) xs a) k) ⌝ }
     {
         let Cursor { row, col, .. } = self.cursor;
         let limit = if self.top <= row { self.top } else { 0 };
@@ -73,7 +62,7 @@ impl Terminal {
 
     // CUD
     pub(crate) fn cursor_down(&mut self, k: usize)
-        ensures { λ _. ⌜ ((rs : List (List Cell)) (a : List ℕ) → term-of (now (self .exit)) rs a ≡ goes-down (term-of (now (self .entry)) rs a) k) ⌝ }
+        ensures { λ _. ⌜ ((xs a : List ℕ) → term-on (now (self .exit)) xs a ≡ goes-down (term-on (now (self .entry)) xs a) k) ⌝ }
     {
         let Cursor { row, col, .. } = self.cursor;
         let limit = if row <= self.bottom {
@@ -91,7 +80,7 @@ impl Terminal {
 
     // CUF
     pub(crate) fn cursor_forward(&mut self, k: usize)
-        ensures { λ _. ⌜ ((rs : List (List Cell)) (a : List ℕ) → term-of (now (self .exit)) rs a ≡ at (term-of (now (self .entry)) rs a) (now (self .entry) .cursor .row) (smaller (now (self .entry) .size .wide - 1) (now (self .entry) .cursor .col + k))) ⌝ }
+        ensures { λ _. ⌜ ((xs a : List ℕ) → term-on (now (self .exit)) xs a ≡ at (term-on (now (self .entry)) xs a) (now (self .entry) .cursor .row) (smaller (now (self .entry) .size .wide - 1) (now (self .entry) .cursor .col + k))) ⌝ }
     {
         let Cursor { row, col, .. } = self.cursor;
         let last = self.size.wide - 1;
@@ -105,7 +94,7 @@ impl Terminal {
 
     // CUB
     pub(crate) fn cursor_back(&mut self, k: usize)
-        ensures { λ _. ⌜ ((rs : List (List Cell)) (a : List ℕ) → term-of (now (self .exit)) rs a ≡ at (term-of (now (self .entry)) rs a) (now (self .entry) .cursor .row) (now (self .entry) .cursor .col - k)) ⌝ }
+        ensures { λ _. ⌜ ((xs a : List ℕ) → term-on (now (self .exit)) xs a ≡ at (term-on (now (self .entry)) xs a) (now (self .entry) .cursor .row) (now (self .entry) .cursor .col - k)) ⌝ }
     {
         let Cursor { row, col, .. } = self.cursor;
         self.cursor = Cursor {
@@ -115,9 +104,25 @@ impl Terminal {
         };
     }
 
+    // CNL
+    pub(crate) fn next_line(&mut self, k: usize)
+        ensures { λ _. ⌜ ((xs a : List ℕ) → term-on (now (self .exit)) xs a ≡ at (goes-down (term-on (now (self .entry)) xs a) k) (goes-down (term-on (now (self .entry)) xs a) k .row) 0) ⌝ }
+    {
+        self.cursor_down(k);
+        self.carriage_return();
+    }
+
+    // CPL
+    pub(crate) fn previous_line(&mut self, k: usize)
+        ensures { λ _. ⌜ ((xs a : List ℕ) → term-on (now (self .exit)) xs a ≡ at (goes-up (term-on (now (self .entry)) xs a) k) (goes-up (term-on (now (self .entry)) xs a) k .row) 0) ⌝ }
+    {
+        self.cursor_up(k);
+        self.carriage_return();
+    }
+
     // CHA, the column counted from 0
     pub(crate) fn cursor_column(&mut self, col: usize)
-        ensures { λ _. ⌜ ((rs : List (List Cell)) (a : List ℕ) → term-of (now (self .exit)) rs a ≡ at (term-of (now (self .entry)) rs a) (now (self .entry) .cursor .row) (smaller (now (self .entry) .size .wide - 1) col)) ⌝ }
+        ensures { λ _. ⌜ ((xs a : List ℕ) → term-on (now (self .exit)) xs a ≡ at (term-on (now (self .entry)) xs a) (now (self .entry) .cursor .row) (smaller (now (self .entry) .size .wide - 1) col)) ⌝ }
     {
         self.cursor = Cursor {
             row: self.cursor.row,
@@ -128,7 +133,7 @@ impl Terminal {
 
     // CUP, row and column counted from 0
     pub(crate) fn cursor_position(&mut self, r: usize, c: usize)
-        ensures { λ _. ⌜ ((rs : List (List Cell)) (a : List ℕ) → term-of (now (self .exit)) rs a ≡ goes-to (term-of (now (self .entry)) rs a) r c) ⌝ }
+        ensures { λ _. ⌜ ((xs a : List ℕ) → term-on (now (self .exit)) xs a ≡ goes-to (term-on (now (self .entry)) xs a) r c) ⌝ }
     {
         let col = c.min(self.size.wide - 1);
         let row = if self.modes.origin {
@@ -149,7 +154,7 @@ impl Terminal {
 
     // DECSTBM, rows counted from 1, the last 0 for the screen's last
     pub(crate) fn set_scroll_region(&mut self, first: usize, last: usize)
-        ensures { λ _. ⌜ ((rs : List (List Cell)) (a : List ℕ) → term-of (now (self .exit)) rs a ≡ region (term-of (now (self .entry)) rs a) first last) ⌝ }
+        ensures { λ _. ⌜ ((xs a : List ℕ) → term-on (now (self .exit)) xs a ≡ region (term-on (now (self .entry)) xs a) first last) ⌝ }
     {
         let end = if last == 0 {
             self.size.high
@@ -165,7 +170,7 @@ impl Terminal {
 
     // DECSC
     pub(crate) fn save_cursor(&mut self)
-        ensures { λ _. ⌜ ((rs : List (List Cell)) (a : List ℕ) → term-of (now (self .exit)) rs a ≡ save (term-of (now (self .entry)) rs a)) ⌝ }
+        ensures { λ _. ⌜ ((xs a : List ℕ) → term-on (now (self .exit)) xs a ≡ save (term-on (now (self .entry)) xs a)) ⌝ }
     {
         let Cursor { row, col, .. } = self.cursor;
         self.kept = Kept {
@@ -178,7 +183,7 @@ impl Terminal {
 
     // DECRC
     pub(crate) fn restore_cursor(&mut self)
-        ensures { λ _. ⌜ ((rs : List (List Cell)) (a : List ℕ) → term-of (now (self .exit)) rs a ≡ restore (term-of (now (self .entry)) rs a)) ⌝ }
+        ensures { λ _. ⌜ ((xs a : List ℕ) → term-on (now (self .exit)) xs a ≡ restore (term-on (now (self .entry)) xs a)) ⌝ }
     {
         let Kept {
             row,

@@ -2,14 +2,13 @@
 ghost use mathlib.Core.Path.{_≡_};
 ghost use mathlib.Core.List.{List};
 ghost use Prim.Native.Nat.{ℕ};
-ghost use Rattle.meaning.specs.Screen.{Cell};
 ghost use Rattle.meaning.specs.Bytes.{mode-one, modes};
-ghost use Rattle.terminal.specs.Terms.{term-of};
+ghost use Rattle.terminal.specs.Terms.{term-on};
 use crate::state::Terminal;
 
 impl Terminal {
     fn set_mode(&mut self, on: bool, private: bool, n: u16)
-        ensures { λ _. ⌜ ((rs : List (List Cell)) (a : List ℕ) → term-of (now (self .exit)) rs a ≡ mode-one on private (term-of (now (self .entry)) rs a) n) ⌝ }
+        ensures { λ _. ⌜ ((xs a : List ℕ) → term-on (now (self .exit)) xs a ≡ mode-one on private (term-on (now (self .entry)) xs a) n) ⌝ }
     {
         match (private, n) {
             (true, 6) => {
@@ -24,7 +23,7 @@ impl Terminal {
     }
 
     pub(crate) fn set_modes(&mut self, on: bool, private: bool, numbers: &[u16])
-        ensures { λ _. ⌜ ((rs : List (List Cell)) (a : List ℕ) → term-of (now (self .exit)) rs a ≡ modes on private (term-of (now (self .entry)) rs a) (now (numbers .entry))) ⌝ }
+        ensures { λ _. ⌜ ((xs a : List ℕ) → term-on (now (self .exit)) xs a ≡ modes on private (term-on (now (self .entry)) xs a) (now (numbers .entry))) ⌝ }
     {
         for n in numbers {
             self.set_mode(on, private, *n);

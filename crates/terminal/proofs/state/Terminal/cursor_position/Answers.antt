@@ -5,4 +5,4 @@ use Rattle.terminal.proofs.state.Terminal.cursor_position.Needs as need
 
 pub returns : need.returns
 unfolding goes-to
-returns c = λ rs a. grind (arith, tells)
+returns c = λ xs a. grind (arith, tells)
