@@ -1,10 +1,8 @@
 -- The writer's law, put together.
-use mathlib.Core.Path.{_≡_, refl}
-use Prim.Native.Nat.{ℕ}
 use Rattle.grid.proofs.Regions.{rows-replicate}
 use Rattle.render_law.specs.Law.{Writer-law}
 use Rattle.render_law.proofs.Goes.{drawn-goes}
-use Rattle.render_law.proofs.Counts.{differing-none, Sofar, drawn-counts, drawn-sends, drawn-stays}
+use Rattle.render_law.proofs.Counts.{differing-none, drawn-counts, drawn-sends, drawn-stays}
 use Rattle.render_law.proofs.Flat.{differs-rows, fine-rows}
 use Rattle.render_law.proofs.Keeps.{drawn-all-keeps}
 use Rattle.render_law.proofs.Closes.{finished-closes, finished-fits}

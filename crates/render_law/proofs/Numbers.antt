@@ -1,7 +1,7 @@
 -- A parameter in decimal, read digit by digit.
 use mathlib.Core.Path.{_≡_, refl, ap, _∙_}
 use mathlib.Core.Bool.{Bool, true, false, _&&_}
-use mathlib.Core.List.{List, [], _∷_, _++_}
+use mathlib.Core.List.{List, [], _∷_}
 use Prim.Native.Nat.{ℕ, _-_, _≤_, _<_}
 use lib.Dec.{eqb, ltb, leb}
 use lib.ListN.{length}
@@ -9,7 +9,7 @@ use native.Mathlib.Omega.{arith}
 use Rattle.std.proofs.shelf.Tests.{le-ltb, le-leb, lt-leb, ne-eqb, and-parts, leb-true}
 use Rattle.meaning.specs.Words.{pick, every}
 use Rattle.meaning.specs.Screen.{Term, sequence}
-use Rattle.meaning.specs.Bytes.{byte, byte-read, sequence-byte, written, in-digits, digits, add-digit}
+use Rattle.meaning.specs.Bytes.{byte, byte-read, written, in-digits, digits, add-digit}
 use Rattle.render_law.proofs.Views.{View, term-at}
 use Rattle.render_law.proofs.Tables.{all-below, from-table, same, same-sound}
 

@@ -5,18 +5,17 @@ use mathlib.Core.List.{List, [], _∷_, _++_, append-assoc}
 use Prim.Native.Nat.{ℕ, suc, _+_, _-_, _/_, _%_, _≤_, _<_}
 use lib.Dec.{eqb, ltb, leb}
 use lib.ListN.{length, length-append}
-use native.Mathlib.Numerals.{add-one}
 use native.Mathlib.Omega.{arith}
 use Rattle.std.proofs.shelf.Ways.{tells}
 use Rattle.std.proofs.shelf.Lists.{take-all}
-use Rattle.std.proofs.shelf.Tests.{and-parts, and-from, leb-true, ltb-true, lt-ltb, lt-leb, eqb-true}
+use Rattle.std.proofs.shelf.Tests.{and-parts, and-from, leb-true, ltb-true, lt-leb, eqb-true}
 use Rattle.meaning.specs.Words.{pick, or, every, smaller, larger, none-of}
 use Rattle.meaning.specs.Screen.{Style, Term, sequence, same-style, plain-style, styled, goes-to, printed}
 use Rattle.meaning.specs.Bytes.{byte, low-byte, written, modes, in-digits, digits, all-numbers}
 use Rattle.meaning.specs.Laws.{colour, fine-style}
 use Rattle.meaning.proofs.Parts.{in-parts}
-use Rattle.render.specs.Sequences.{cursor-position, parameter, parameter-if, graphic-rendition, cursor-visible}
-use Rattle.render_law.proofs.Views.{View, term-at, term-of, moved, restyled, shown-so, filled, signed}
+use Rattle.render.specs.Sequences.{cursor-position, parameter, graphic-rendition, cursor-visible}
+use Rattle.render_law.proofs.Views.{View, term-at, term-of, moved, restyled, shown-so, signed}
 use Rattle.render_law.proofs.Tables.{all-below, from-table}
 use Rattle.render_law.proofs.Numbers.{pick-false, byte-high, written-number, small-number}
 
