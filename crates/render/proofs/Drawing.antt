@@ -1,11 +1,11 @@
 -- The loop over the cells: what is left to draw, from the state so far, gives the whole go.
 use mathlib.Core.Path.{_≡_, refl, sym, ap, _∙_}
 use mathlib.Core.Bool.{Bool, true, false, _&&_}
-use mathlib.Core.List.{List, [], _∷_, _++_}
-use mathlib.Core.Logic.{_⊎_, inl, inr, _↔_}
-use Prim.Native.Nat.{ℕ, zero, suc, _+_, _*_, _-_, _/_, _%_, _≤_, _<_}
+use mathlib.Core.List.{List, _++_}
+use mathlib.Core.Logic.{_⊎_, inl, inr}
+use Prim.Native.Nat.{ℕ, _+_, _*_, _/_, _%_, _≤_, _<_}
 use native.Mathlib.Nat.{mod-lt, div-lt-iff-lt-mul}
-use lib.Dec.{eqb, ltb, leb}
+use lib.Dec.{eqb}
 use lib.ListN.{length, getD, take, drop, set}
 use native.Mathlib.Omega.{arith}
 use Rattle.std.proofs.shelf.Ways.{tells}
@@ -55,22 +55,23 @@ cell-sent w room i p screen pen n r out out₁ l d e a =
     rw (ne-eqb (getD screen i 0) p d, k, le-leb (n + 32) room e)
     (ap (λ (x : List ℕ). record { screen = set screen i p; pen = pen-after w pen (i / w) (i % w) (rendition-of p); bytes = x }) (sym (a .said)))
 
-done : (d : Go) (screen : List ℕ) (pen : Pen) (r : ℕ) (out out₁ : List ℕ) → state screen pen r out₁ ≡ d → drop r out₁ ≡ drop r out → r ≤ length out₁ → Drew d screen pen r out out₁
-done d screen pen r out out₁ e k m =
+-- what the lent row holds then
+pub row-is : (r : ℕ) (out out₁ bs : List ℕ) → take r out₁ ≡ bs → drop r out₁ ≡ drop r out → r ≡ length bs → out₁ ≡ bs ++ drop (length bs) out
+row-is r out out₁ bs b k l =
+    sym (take-append-drop r out₁) ∙ (ap (λ (x : List ℕ). x ++ drop r out₁) b ∙ ap (λ (x : List ℕ). bs ++ x) (k ∙ ap (λ (n : ℕ). drop n out) l))
+
+done : (d : Go) (screen : List ℕ) (pen : Pen) (r : ℕ) (out out₁ : List ℕ) → state screen pen r out₁ ≡ d → drop r out₁ ≡ drop r out
+    → r ≤ length out → length out₁ ≡ length out → Drew d screen pen r out out₁
+done d screen pen r out out₁ e k m n =
     let b : take r out₁ ≡ d .bytes = ap (λ (s : Go). s .bytes) e in
-    let l : r ≡ length (d .bytes) = sym (length-take-le r out₁ m) ∙ ap length b in
-    record {
-      shows = ap (λ (s : Go). s .screen) e;
-      set-to = ap (λ (s : Go). s .pen) e;
-      sent = l;
-      so = sym (take-append-drop r out₁) ∙ (ap (λ (x : List ℕ). x ++ drop r out₁) b ∙ ap (λ (x : List ℕ). d .bytes ++ x) (k ∙ ap (λ (n : ℕ). drop n out) l));
-    }
+    let l : r ≡ length (d .bytes) = sym (length-take-le r out₁ (omega arith)) ∙ ap length b in
+    record { shows = ap (λ (s : Go). s .screen) e; set-to = ap (λ (s : Go). s .pen) e; sent = l; within = m; so = row-is r out out₁ (d .bytes) b k l }
 
 pub refused : (w h room : ℕ) (pic scr : List ℕ) (pen : Pen) (out : List ℕ) → (length scr ≡ h * w → length pic ≡ h * w → ⊥) → Drew (drawn w h pic room scr pen) scr pen 0 out out
 unfolding drawn
 refused w h room pic scr pen out f =
     let e : (eqb (length scr) (h * w) && eqb (length pic) (h * w)) ≡ false = grind (arith, tells) in
-    done _ scr pen 0 out out (rw e) refl (omega arith)
+    done _ scr pen 0 out out (rw e) refl (omega arith) refl
 
 -- the loop before the cell i: what is left makes the whole
 pub record Going (w : ℕ) (pic : List ℕ) (all : Go) (out₀ : List ℕ) (i : ℕ) (screen : List ℕ) (pen : Pen) (n : ℕ) (out : List ℕ) : Type 0 where
@@ -103,4 +104,4 @@ unfolding drawn drawn-from
 drew {w} {pic} {scr₁} {pen₁} {r} {out} {out₁} {i} h scr pen a b l n g =
     let f = at-drop-all (λ (ps : List ℕ). drawn-from w (length out) ps i (state scr₁ pen₁ r out₁)) pic i l in
     let m = g .most in
-    done _ scr₁ pen₁ r out out₁ (rw (eq-eqb (length scr) (h * w) a, eq-eqb (length pic) (h * w) b) (sym f ∙ g .on)) (g .kept) (omega arith)
+    done _ scr₁ pen₁ r out out₁ (rw (eq-eqb (length scr) (h * w) a, eq-eqb (length pic) (h * w) b) (sym f ∙ g .on)) (g .kept) (omega arith) n

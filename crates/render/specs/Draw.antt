@@ -1,8 +1,8 @@
 -- One go of drawing: what a terminal that shows one picture is sent so that it shows another, as far as there is room.
 use mathlib.Core.Path.{_≡_}
-use mathlib.Core.Bool.{Bool, true, false, _&&_}
+use mathlib.Core.Bool.{_&&_}
 use mathlib.Core.List.{List, [], _∷_, _++_}
-use Prim.Native.Nat.{ℕ, _+_, _*_, _/_, _%_}
+use Prim.Native.Nat.{ℕ, _+_, _*_, _/_, _%_, _≤_}
 use lib.Dec.{eqb, leb}
 use lib.ListN.{length, getD, set, drop}
 use Rattle.meaning.specs.Words.{pick}
@@ -59,4 +59,5 @@ pub record Drew (d : Go) (screen : List ℕ) (pen : Pen) (r : ℕ) (out out₁ :
   pub shows : screen ≡ d .screen
   pub set-to : pen ≡ d .pen
   pub sent : r ≡ length (d .bytes)
+  pub within : r ≤ length out
   pub so : out₁ ≡ d .bytes ++ drop (length (d .bytes)) out

@@ -1,8 +1,8 @@
 -- The closing go: the cursor is put where it is to be, and shown or hidden.
 use mathlib.Core.Path.{_≡_}
-use mathlib.Core.Bool.{Bool, true, false, _&&_, not, Bool·beq}
-use mathlib.Core.List.{List, [], _∷_, _++_}
-use Prim.Native.Nat.{ℕ}
+use mathlib.Core.Bool.{Bool, false, _&&_, not, Bool·beq}
+use mathlib.Core.List.{List, [], _++_}
+use Prim.Native.Nat.{ℕ, _≤_}
 use lib.Dec.{eqb, ltb, leb}
 use lib.ListN.{length, drop}
 use Rattle.meaning.specs.Words.{pick, or}
@@ -51,4 +51,5 @@ finished w h row col visible room pen =
 pub record Finished (f : Finish) (pen : Pen) (r : ℕ) (out out₁ : List ℕ) : Type 0 where
   pub set-to : pen ≡ f .pen
   pub sent : r ≡ length (f .bytes)
+  pub within : r ≤ length out
   pub so : out₁ ≡ f .bytes ++ drop (length (f .bytes)) out

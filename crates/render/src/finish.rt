@@ -1,6 +1,6 @@
 // The closing go: where the cursor is, and whether it is visible.
 ghost use mathlib.Core.Path.{_≡_};
-ghost use Prim.Native.Nat.{_+_, _<_, _≤_};
+ghost use Prim.Native.Nat.{_<_, _≤_};
 ghost use mathlib.Core.Bool.{true};
 ghost use lib.ListN.{length};
 ghost use Rattle.output.specs.Added.{Added};
@@ -62,7 +62,8 @@ pub(crate) fn write_closing(
 ) -> usize
     requires small { ⌜ (visible ≡ true → (row < 60) × (col < 200)) ⌝ }
     requires room { ⌜ 16 ≤ length (now out) ⌝ }
-    ensures { λ r. ⌜ Added 0 (now (out .entry)) r (now (out .exit)) (finish-bytes pen row col visible) ⌝ }
+    ensures added { λ r. ⌜ Added 0 (now (out .entry)) r (now (out .exit)) (finish-bytes pen row col visible) ⌝ }
+    ensures most { λ r. ⌜ r ≤ 16 ⌝ }
 {
     let a = put_cursor(out, pen, row, col, visible);
     if pen.visible == visible {

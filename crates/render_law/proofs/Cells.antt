@@ -1,5 +1,5 @@
 -- What the bytes of one cell do to a viewer's terminal, and how many there are.
-use mathlib.Core.Path.{_≡_, refl, sym, ap, _∙_}
+use mathlib.Core.Path.{_≡_, refl, ap, _∙_}
 use mathlib.Core.Bool.{Bool, true, false, _&&_, not}
 use mathlib.Core.List.{List, [], _∷_, _++_}
 use mathlib.Core.Logic.{_⊎_, inl, inr}
@@ -10,14 +10,14 @@ use native.Mathlib.Omega.{arith}
 use lib.Dec.{eqb, ltb, leb}
 use lib.ListN.{length, set, length-append}
 use Rattle.std.proofs.shelf.Tests.{and-parts, and-from, eqb-true, cases-bool, leb-true, lt-ltb, not-true}
-use Rattle.meaning.specs.Words.{pick, every, put-at}
+use Rattle.meaning.specs.Words.{pick, put-at}
 use Rattle.meaning.specs.Screen.{Style, Cell, row-at}
 use Rattle.meaning.specs.Bytes.{written}
 use Rattle.meaning.specs.Laws.{fine-cell, fine-style}
 use Rattle.grid.specs.Cells.{unpacked, style-of, rows-of}
 use Rattle.grid.specs.declared.cell.Rendition.{Rendition}
 use Rattle.grid.proofs.Parts.{rows-put}
-use Rattle.render.specs.Sequences.{cursor-position, graphic-rendition}
+use Rattle.render.specs.Sequences.{cursor-position}
 use Rattle.render.specs.Pens.{rendition-of, same-rendition, is-at, pen-after}
 use Rattle.render.specs.Draw.{move-bytes, restyle-bytes, cell-bytes}
 use Rattle.render.specs.declared.pen.Pen.{Pen}

@@ -1,18 +1,18 @@
 -- The closing go as the viewer's terminal sees it, and how many bytes it takes.
 use mathlib.Core.Path.{_≡_, refl, sym, ap, _∙_}
-use mathlib.Core.Bool.{Bool, true, false, _&&_, not, Bool·beq}
-use mathlib.Core.List.{List, [], _∷_, _++_}
+use mathlib.Core.Bool.{Bool, true, false, _&&_, Bool·beq}
+use mathlib.Core.List.{List, []}
 use mathlib.Core.Logic.{_⊎_, inl, inr}
-use Prim.Native.Nat.{ℕ, _+_, _≤_, _<_}
+use Prim.Native.Nat.{ℕ, _≤_, _<_}
 use native.Mathlib.Omega.{arith}
 use lib.Dec.{eqb, ltb, leb}
 use lib.ListN.{length, length-append}
 use Rattle.std.proofs.shelf.Tests.{and-parts, eqb-true, eq-eqb, cases-bool, le-leb, lt-ltb, ltb-true}
-use Rattle.meaning.specs.Words.{pick, every}
+use Rattle.meaning.specs.Words.{pick}
 use Rattle.meaning.specs.Bytes.{written}
 use Rattle.meaning.proofs.Controls.{pick-both}
-use Rattle.render.specs.Sequences.{cursor-position, cursor-visible}
-use Rattle.render.specs.Finish.{can-be-at, seen-at, place-bytes, visible-bytes, finish-bytes, finish-pen, Finish, finished}
+use Rattle.render.specs.Sequences.{cursor-position}
+use Rattle.render.specs.Finish.{can-be-at, seen-at, place-bytes, visible-bytes, finish-bytes, finish-pen, finished}
 use Rattle.render.specs.declared.pen.Pen.{Pen}
 use Rattle.render_law.specs.View.{viewer}
 use Rattle.render_law.specs.Law.{all-bytes, Fits, Closes}

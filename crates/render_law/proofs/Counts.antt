@@ -1,22 +1,21 @@
 -- One go counted: bytes for the cells that become right, never more than there is room for, and some while something differs.
 use mathlib.Core.Path.{_≡_, refl, sym, ap, _∙_}
-use mathlib.Core.Bool.{Bool, true, false, _&&_}
-use mathlib.Core.List.{List, [], _∷_, _++_}
+use mathlib.Core.Bool.{true, false}
+use mathlib.Core.List.{List, [], _∷_}
 use mathlib.Core.Logic.{_⊎_, inl, inr}
 use Prim.Native.Nat.{ℕ, zero, suc, _+_, _*_, _/_, _%_, _-_, _≤_, _<_}
 use native.Mathlib.Omega.{arith}
-use lib.Dec.{eqb, ltb, leb}
-use lib.ListN.{length, getD, set, take, drop, length-append, length-set}
+use lib.Dec.{eqb}
+use lib.ListN.{length, getD, set, drop, length-append, length-set}
 use Rattle.std.proofs.shelf.Lists.{drop-more, length-drop}
 use Rattle.std.proofs.shelf.Tests.{and-parts, eqb-true, eq-eqb, cases-bool, leb-true, le-leb}
-use Rattle.meaning.specs.Words.{pick, every}
 use Rattle.meaning.specs.Laws.{fine-cell}
 use Rattle.grid.specs.Cells.{unpacked}
 use Rattle.render.specs.Draw.{Go, drawn, drawn-from, drawn-cell, at-start, cell-bytes}
 use Rattle.render.specs.declared.pen.Pen.{Pen}
 use Rattle.render_law.specs.Law.{differing, all-fine, all-bytes}
 use Rattle.render_law.proofs.Sequences.{every-append}
-use Rattle.render_law.proofs.Cells.{place-of, cell-small, Cell-bytes, cell-some}
+use Rattle.render_law.proofs.Cells.{place-of, cell-small, cell-some}
 use Rattle.render_law.proofs.Sends.{cell-cases, drawn-is}
 
 differing-set : (xs ps : List ℕ) (i : ℕ) → i < length xs → i < length ps → eqb (getD xs i 0) (getD ps i 0) ≡ false

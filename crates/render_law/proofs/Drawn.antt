@@ -1,24 +1,24 @@
 -- Every screen that can be drawn is reached from a fresh one, by goes of 32 bytes: from the writer's law alone.
-use mathlib.Core.Path.{_≡_, refl, sym, ap, subst, _∙_}
+use mathlib.Core.Path.{_≡_, sym, ap, _∙_}
 use mathlib.Core.Bool.{true}
-use mathlib.Core.List.{List, [], _∷_, _++_}
+use mathlib.Core.List.{List, [], _++_}
 use mathlib.Core.Logic.{inl, inr}
-use Prim.Native.Nat.{ℕ, zero, suc, _+_, _*_, _≤_, _<_}
+use Prim.Native.Nat.{ℕ, zero, suc, _*_, _≤_, _<_}
 use native.Mathlib.Omega.{arith}
 use lib.ListN.{length, length-append, replicate, length-replicate}
 use Rattle.std.proofs.shelf.Tests.{cases-lt}
 use Rattle.meaning.specs.Words.{every}
-use Rattle.meaning.specs.Screen.{Cell, Term, fresh}
+use Rattle.meaning.specs.Screen.{Term, fresh}
 use Rattle.meaning.specs.Bytes.{written}
 use Rattle.meaning.specs.Picture.{differs}
 use Rattle.meaning.specs.Laws.{drawable, fine-cell, Drawn}
-use Rattle.meaning.proofs.Sound.{good-sound, Sound-fields}
+use Rattle.meaning.proofs.Sound.{good-sound}
 use Rattle.grid.specs.Cells.{rows-of, cells-of, blank-number}
 use Rattle.render.specs.Pens.{fresh-pen}
-use Rattle.render.specs.Draw.{Go, drawn}
+use Rattle.render.specs.Draw.{drawn}
 use Rattle.render.specs.declared.pen.Pen.{Pen}
 use Rattle.render_law.specs.View.{viewer}
-use Rattle.render_law.specs.Law.{differing, all-fine, Draws, Keeps, Writer-law}
+use Rattle.render_law.specs.Law.{differing, all-fine}
 use Rattle.render_law.proofs.Sequences.{then-part}
 use Rattle.render_law.proofs.Law.{writer-law}
 use Rattle.render_law.proofs.Rows.{rows-of-cells, length-cells}

@@ -1,16 +1,16 @@
 -- Flat pictures and their rows: the same cells differ, and the same cells are fine.
 use mathlib.Core.Path.{_≡_, refl, sym, ap, subst, _∙_}
 use mathlib.Core.Bool.{Bool, true, false, _&&_}
-use mathlib.Core.List.{List, [], _∷_, _++_, map}
+use mathlib.Core.List.{List, [], _∷_, map}
 use mathlib.Core.Logic.{_⊎_, inl, inr}
-use Prim.Native.Nat.{ℕ, zero, suc, _+_, _*_, _-_, _/_, _%_, _^_, _≤_, _<_}
+use Prim.Native.Nat.{ℕ, zero, suc, _+_, _*_}
 use native.Mathlib.Nat.{suc-mul, zero-mul}
 use native.Mathlib.Omega.{arith}
 use lib.Dec.{eqb}
 use lib.ListN.{length, take, drop}
 use Rattle.std.proofs.shelf.Lists.{length-take, length-drop, take-map, drop-map, take-append-drop, nil-from-length}
 use Rattle.std.proofs.shelf.Tests.{and-parts, eqb-true, eqb-false, eq-eqb, cases-bool}
-use Rattle.meaning.specs.Words.{pick, every}
+use Rattle.meaning.specs.Words.{every}
 use Rattle.meaning.specs.Screen.{Cell, same-cell}
 use Rattle.meaning.specs.Picture.{differs, row-differs}
 use Rattle.meaning.specs.Laws.{fine-cell}

@@ -7,7 +7,7 @@ use Rattle.meaning.specs.Screen.{Term}
 use Rattle.meaning.specs.Bytes.{written}
 use Rattle.meaning.specs.Laws.{fine-cell}
 use Rattle.grid.specs.Cells.{unpacked}
-use Rattle.render.specs.Draw.{Go, drawn, at-start}
+use Rattle.render.specs.Draw.{Go, drawn}
 use Rattle.render.specs.declared.pen.Pen.{Pen}
 use Rattle.render_law.specs.View.{viewer}
 use Rattle.render_law.specs.Law.{all-fine}

@@ -1,21 +1,20 @@
 -- What any go keeps, whatever picture, screen and pen are.
 use mathlib.Core.Path.{_≡_, refl, _∙_}
-use mathlib.Core.Bool.{Bool, true, false, _&&_, not}
+use mathlib.Core.Bool.{Bool, true}
 use mathlib.Core.List.{List, [], _∷_}
-use Prim.Native.Nat.{ℕ, zero, suc, _+_, _*_, _/_, _%_, _^_, _≤_, _<_}
+use Prim.Native.Nat.{ℕ, zero, suc, _+_, _*_, _/_, _%_, _^_, _<_}
 use native.Mathlib.Omega.{arith}
 use lib.Dec.{ltb}
 use lib.ListN.{length, set, length-set}
 use Rattle.std.proofs.shelf.Tests.{and-parts, and-from, ltb-true}
 use Rattle.std.proofs.shelf.Ways.{tells}
 use Rattle.meaning.specs.Words.{pick, every}
-use Rattle.grid.specs.Cells.{blank-number}
 use Rattle.render.specs.Pens.{rendition-of, pen-after}
-use Rattle.render.specs.Draw.{Go, drawn, at-start}
+use Rattle.render.specs.Draw.{drawn}
 use Rattle.render.specs.declared.pen.Pen.{Pen}
 use Rattle.render_law.specs.Law.{Fits, Keeps}
 use Rattle.render_law.proofs.Cells.{place-of}
-use Rattle.render_law.proofs.Sends.{sent, drawn-keeps}
+use Rattle.render_law.proofs.Sends.{drawn-keeps}
 
 every-all : (xs : List ℕ) → every (λ _. true) xs ≡ true
 every-all [] = refl

@@ -1,33 +1,27 @@
 -- A parameter in decimal, read digit by digit.
 use mathlib.Core.Path.{_≡_, refl, ap, _∙_}
 use mathlib.Core.Bool.{Bool, true, false, _&&_}
-use mathlib.Core.List.{List, [], _∷_, _++_}
+use mathlib.Core.List.{List, [], _∷_}
 use Prim.Native.Nat.{ℕ, _-_, _≤_, _<_}
 use lib.Dec.{eqb, ltb, leb}
 use lib.ListN.{length}
 use native.Mathlib.Omega.{arith}
-use Rattle.std.proofs.shelf.Tests.{le-ltb, le-leb, lt-leb, ne-eqb, and-parts, leb-true}
-use Rattle.meaning.specs.Words.{pick, every}
+use Rattle.std.proofs.shelf.Tests.{cond-true, cond-false, le-ltb, le-leb, lt-leb, ne-eqb, and-parts, leb-true}
+use Rattle.meaning.specs.Words.{every}
 use Rattle.meaning.specs.Screen.{Term, sequence}
-use Rattle.meaning.specs.Bytes.{byte, byte-read, sequence-byte, written, in-digits, digits, add-digit}
+use Rattle.meaning.specs.Bytes.{byte, byte-read, written, in-digits, digits, add-digit}
 use Rattle.render_law.proofs.Views.{View, term-at}
 use Rattle.render_law.proofs.Tables.{all-below, from-table, same, same-sound}
 
-pub pick-true : {A : Type 0} (b : Bool) (x y : A) → b ≡ true → pick b x y ≡ x
-pick-true b x y e = rw e
-
-pub pick-false : {A : Type 0} (b : Bool) (x y : A) → b ≡ false → pick b x y ≡ y
-pick-false b x y e = rw e
-
 pub byte-high : (t : Term) (c : ℕ) → 32 ≤ c → c < 127 → byte t c ≡ byte-read t (t .reading) c
 unfolding byte
-byte-high t c h k = pick-false (ltb c 32) _ _ (le-ltb c 32 h) ∙ pick-false (eqb c 127) _ _ (ne-eqb c 127 (λ e. omega arith))
+byte-high t c h k = cond-false (ltb c 32) _ _ (le-ltb c 32 h) ∙ cond-false (eqb c 127) _ _ (ne-eqb c 127 (λ e. omega arith))
 
 digit-byte : (v : View) (ps now : List ℕ) (d : ℕ) → 48 ≤ d → d ≤ 57
     → byte (term-at v (sequence false ps now)) d ≡ term-at v (sequence false ps (add-digit now (d - 48)))
 digit-byte v ps now d h k =
     byte-high (term-at v (sequence false ps now)) d (omega arith) (omega arith)
-    ∙ (pick-false (leb 128 d) _ _ (lt-leb 128 d (omega arith)) ∙ pick-true (leb 48 d && leb d 57) _ _ (rw (le-leb 48 d h) (le-leb d 57 k)))
+    ∙ (cond-false (leb 128 d) _ _ (lt-leb 128 d (omega arith)) ∙ cond-true (leb 48 d && leb d 57) _ _ (rw (le-leb 48 d h) (le-leb d 57 k)))
 
 abbrev is-digit : ℕ → Bool
 is-digit d = leb 48 d && leb d 57

@@ -1,24 +1,21 @@
 -- Rows that can be drawn as flat numbers, and back.
-use mathlib.Core.Path.{_≡_, refl, ap, _∙_}
-use mathlib.Core.Bool.{Bool, true, _&&_}
-use mathlib.Core.List.{List, [], _∷_, _++_, map}
-use Prim.Native.Nat.{ℕ, zero, suc, _+_, _*_, _^_, _≤_, _<_}
+use mathlib.Core.Path.{_≡_, refl, ap}
+use mathlib.Core.Bool.{true, _&&_}
+use mathlib.Core.List.{List, [], _∷_, map}
+use Prim.Native.Nat.{ℕ, _*_}
 use native.Mathlib.Nat.{suc-mul, zero-mul}
 use native.Mathlib.Omega.{arith}
 use lib.Dec.{ltb, leb}
-use lib.ListN.{length, take, drop, length-append}
+use lib.ListN.{length, length-append}
 use Rattle.std.specs.shelf.Lists.{All}
 use Rattle.std.proofs.shelf.Lists.{length-map, map-append, take-at, drop-at}
 use Rattle.std.proofs.shelf.Tests.{and-parts, leb-true, ltb-true}
-use Rattle.std.proofs.shelf.Ways.{tells}
 use Rattle.meaning.specs.Words.{every}
 use Rattle.meaning.specs.Screen.{Cell}
 use Rattle.meaning.specs.Laws.{colour, fine-cell}
 use Rattle.grid.specs.Cells.{packed, unpacked, pieces, rows-of, cells-of}
 use Rattle.grid.proofs.Codes.{unpacked-packed}
-
-colour-small : (k : ℕ) → colour k ≡ true → k < 10
-colour-small k e = grind (arith, tells)
+use Rattle.render_law.proofs.Sequences.{colour-small}
 
 fine-back : (c : Cell) → fine-cell c ≡ true → unpacked (packed c) ≡ c
 fine-back c e =

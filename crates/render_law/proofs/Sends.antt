@@ -1,5 +1,5 @@
 -- A go cell by cell: what every cell that is sent keeps, the whole go keeps.
-use mathlib.Core.Path.{_≡_, refl, ap, _∙_}
+use mathlib.Core.Path.{_≡_}
 use mathlib.Core.Bool.{Bool, true, false, _&&_}
 use mathlib.Core.List.{List, [], _∷_, _++_}
 use mathlib.Core.Logic.{_⊎_, inl, inr}
@@ -8,7 +8,7 @@ use native.Mathlib.Omega.{arith}
 use lib.Dec.{eqb, leb}
 use lib.ListN.{length, getD, set}
 use Rattle.std.proofs.shelf.Tests.{and-parts, eqb-true, eq-eqb, cases-bool}
-use Rattle.meaning.specs.Words.{pick, every}
+use Rattle.meaning.specs.Words.{every}
 use Rattle.render.specs.Pens.{rendition-of, pen-after}
 use Rattle.render.specs.Draw.{Go, drawn, drawn-from, drawn-cell, at-start, cell-bytes}
 use Rattle.render.specs.declared.pen.Pen.{Pen}

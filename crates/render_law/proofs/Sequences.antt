@@ -5,20 +5,19 @@ use mathlib.Core.List.{List, [], _∷_, _++_, append-assoc}
 use Prim.Native.Nat.{ℕ, suc, _+_, _-_, _/_, _%_, _≤_, _<_}
 use lib.Dec.{eqb, ltb, leb}
 use lib.ListN.{length, length-append}
-use native.Mathlib.Numerals.{add-one}
 use native.Mathlib.Omega.{arith}
 use Rattle.std.proofs.shelf.Ways.{tells}
 use Rattle.std.proofs.shelf.Lists.{take-all}
-use Rattle.std.proofs.shelf.Tests.{and-parts, and-from, leb-true, ltb-true, lt-ltb, lt-leb, eqb-true}
+use Rattle.std.proofs.shelf.Tests.{cond-false, and-parts, and-from, leb-true, ltb-true, lt-leb, eqb-true}
 use Rattle.meaning.specs.Words.{pick, or, every, smaller, larger, none-of}
 use Rattle.meaning.specs.Screen.{Style, Term, sequence, same-style, plain-style, styled, goes-to, printed}
 use Rattle.meaning.specs.Bytes.{byte, low-byte, written, modes, in-digits, digits, all-numbers}
 use Rattle.meaning.specs.Laws.{colour, fine-style}
 use Rattle.meaning.proofs.Parts.{in-parts}
-use Rattle.render.specs.Sequences.{cursor-position, parameter, parameter-if, graphic-rendition, cursor-visible}
-use Rattle.render_law.proofs.Views.{View, term-at, term-of, moved, restyled, shown-so, filled, signed}
+use Rattle.render.specs.Sequences.{cursor-position, parameter, graphic-rendition, cursor-visible}
+use Rattle.render_law.proofs.Views.{View, term-at, term-of, moved, restyled, shown-so, signed}
 use Rattle.render_law.proofs.Tables.{all-below, from-table}
-use Rattle.render_law.proofs.Numbers.{pick-false, byte-high, written-number, small-number}
+use Rattle.render_law.proofs.Numbers.{byte-high, written-number, small-number}
 
 -- one part read, then the rest
 pub then-part : (t u : Term) (as₁ bs : List ℕ) → written t as₁ ≡ u → written t (as₁ ++ bs) ≡ written u bs
@@ -141,7 +140,7 @@ style-at m f g a b c d =
     (from-table (λ y. all-below (λ z. style-ok m y z) 10) 10 f
     (from-table (λ x. all-below (λ y. all-below (λ z. style-ok x y z) 10) 10) 8 m style-table a) b) c)
 
-colour-small : (k : ℕ) → colour k ≡ true → k < 10
+pub colour-small : (k : ℕ) → colour k ≡ true → k < 10
 colour-small k e = grind (arith, tells)
 
 pub same-style-sound : (a b : Style) → same-style a b ≡ true → a ≡ b
@@ -192,7 +191,7 @@ pub written-sign : (v : View) (c : ℕ) → v .late ≡ false → 32 ≤ c → c
 unfolding written printed
 written-sign v c e h k =
     byte-high (term-of v) c h k
-    ∙ (rw (pick-false (leb 128 c) 63 c (lt-leb 128 c (omega arith))) (rw e (sym (pick-ap term-of (ltb (suc (v .col)) (v .wide)) _ _))))
+    ∙ (rw (cond-false (leb 128 c) 63 c (lt-leb 128 c (omega arith))) (rw e (sym (pick-ap term-of (ltb (suc (v .col)) (v .wide)) _ _))))
 
 -- the cursor shown or hidden
 pub written-visible : (v : View) (b : Bool) → written (term-of v) (cursor-visible b) ≡ term-of (shown-so v b)

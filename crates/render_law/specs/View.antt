@@ -1,5 +1,5 @@
 -- The viewer's terminal, as cells and a pen model it.
-use mathlib.Core.Bool.{Bool, true, false}
+use mathlib.Core.Bool.{true, false}
 use mathlib.Core.List.{List, []}
 use Prim.Native.Nat.{ℕ, _-_}
 use Rattle.meaning.specs.Screen.{Term, ground, at-start}

@@ -1,7 +1,5 @@
-use borrow.Author.Needs.{needs}
 use native.Mathlib.Omega.{arith}
 use mathlib.Core.Logic.{inl, inr}
-use mathlib.Core.Path.{_∙_}
 use Rattle.render.proofs.Drawing.{place-within, refused, drew, turn-left, turn-sent}
 use Rattle.render.proofs.draw.draw.Needs as need
 use Rattle.render.proofs.draw.draw.Needs.{then-screen-size·by·then-screen-size, then-screen-size·by·else-screen-size·then-picture-size, then-screen-i·then-len-out, else-screen-i, else-screen-i·by·then-screen-i·else-len-out, else-screen-i·by·else-screen-i}

@@ -13,4 +13,4 @@ returns-then-out-lt16 c = refused _ _ _ _ _ _ _ (elim (c .then-out-lt16 .came) [
 ])
 
 pub returns : need.returns
-returns c = closed _ _ _ _ _ _ _ _ _ _ (omega arith) (sym (c .allowed .ensures) ∙ c .if-not-allowed .left) (c .write-closing-len .ensures) (c .closing-pen .ensures)
+returns c = closed _ _ _ _ _ _ _ _ _ _ (omega arith) (sym (c .allowed .ensures) ∙ c .if-not-allowed .left) (c .write-closing-len .ensures .added) (c .write-closing-len .ensures .most) (c .closing-pen .ensures)
