@@ -6,3 +6,4 @@ pub mod Maps
 pub mod Core
 pub mod Machine
 pub mod Pictures
+pub mod Back
