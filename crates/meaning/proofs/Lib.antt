@@ -5,5 +5,6 @@ pub mod Large
 pub mod Controls
 pub mod Edits
 pub mod Sound
+pub mod Cellwise
 pub mod Drawable
 pub mod Reports
