@@ -7,4 +7,5 @@ pub mod Edits
 pub mod Sound
 pub mod Cellwise
 pub mod Drawable
+pub mod Small
 pub mod Reports
