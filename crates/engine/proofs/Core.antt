@@ -118,3 +118,34 @@ pub picture-one : (u : One) → picture (one-glass u)
     ≡ put-at (put-rows 0 0 (cut (room-of (u .wide) (u .high)) (u .term)) (so-many (u .high) (blank-row (u .wide)))) (u .high - 1) (last-row (one-glass u))
 unfolding picture draw-places draw-lines places window-at
 picture-one u = simp (self (u .id))
+
+-- with no window, only somebody who attaches changes more than the prefix
+pub key-empty : (w h n : ℕ) (a p : Bool) (c : ℕ)
+    → (b : Bool) × (turn core (empty w h a n p) (key c) .next ≡ empty w h a n b) × (length (turn core (empty w h a n p) (key c) .says) ≤ 1)
+unfolding turn command
+key-empty w h n a p c = go (cases-bool a) (cases-bool p) (cases-bool (eqb c 1))
+  where
+    go : (a ≡ true) ⊎ (a ≡ false) → (p ≡ true) ⊎ (p ≡ false) → (eqb c 1 ≡ true) ⊎ (eqb c 1 ≡ false)
+        → (b : Bool) × (turn core (empty w h a n p) (key c) .next ≡ empty w h a n b) × (length (turn core (empty w h a n p) (key c) .says) ≤ 1)
+    go (inr d) q e = (p, simp d, simp d (omega arith))
+    go (inl d) (inl q) (inl e) = (false, simp (d, q, e), simp (d, q, e) (omega arith))
+    go (inl d) (inl q) (inr e) = (false, simp (d, q, e), simp (d, q, e) (omega arith))
+    go (inl d) (inr q) (inl e) = (true, simp (d, q, e), simp (d, q, e) (omega arith))
+    go (inl d) (inr q) (inr e) = (false, simp (d, q, e), simp (d, q, e) (omega arith))
+
+pub from-empty : (w h n : ℕ) (a p : Bool) (i : ℕ) (bs : List ℕ) → (turn core (empty w h a n p) (from i bs) .next ≡ empty w h a n p) × (turn core (empty w h a n p) (from i bs) .says ≡ [])
+unfolding turn on-bytes
+from-empty w h n a p i bs = (refl, refl)
+
+pub gone-empty : (w h n : ℕ) (a p : Bool) (i : ℕ) → (turn core (empty w h a n p) (gone i) .next ≡ empty w h a n p) × (turn core (empty w h a n p) (gone i) .says ≡ [])
+unfolding turn
+gone-empty w h n a p i = (refl, refl)
+
+-- what a program is answered is one saying, or none
+pub from-says : (u : One) (bs : List ℕ) → length (turn core (one-glass u) (from (u .id) bs) .says) ≤ 1
+unfolding turn on-bytes
+from-says u bs = simp (self (u .id)) (one (none-of (written (u .term) bs .answer)) _ _)
+  where
+    one : (b : Bool) (i : ℕ) (xs : List ℕ) → length (pick b [] (send i xs ∷ [])) ≤ 1
+    one true i xs = omega arith
+    one false i xs = omega arith

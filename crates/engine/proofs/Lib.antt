@@ -7,3 +7,4 @@ pub mod Core
 pub mod Machine
 pub mod Pictures
 pub mod Back
+pub mod Good
