@@ -2,13 +2,14 @@
 use mathlib.Core.Path.{_≡_, refl, sym, ap, _∙_}
 use mathlib.Core.Bool.{Bool, true, _&&_}
 use mathlib.Core.List.{List, [], _∷_, _++_, append-assoc}
-use Prim.Native.Nat.{ℕ, zero, suc, _+_, _-_, _≤_, _<_}
+use Prim.Native.Nat.{ℕ, zero, suc, _+_, _-_, _%_, _^_, _≤_, _<_}
+use lib.Dec.{ltb}
 use lib.ListN.{length, take, drop, length-append, length-take, length-drop}
 use native.Mathlib.Omega.{arith}
-use Rattle.std.proofs.shelf.Lists.{take-at, drop-at, drop-drop, drop-append-le, take-append-le, take-take, drop-take, length-take-le}
-use Rattle.std.proofs.shelf.Tests.{and-parts, and-from}
+use Rattle.std.proofs.shelf.Lists.{take-at, drop-at, drop-drop, drop-append-le, take-append-le, take-take, drop-take, take-all, length-take-le}
+use Rattle.std.proofs.shelf.Tests.{and-parts, and-from, ltb-true, lt-ltb}
 use Rattle.meaning.specs.Words.{every}
-use Rattle.engine.specs.Areas.{part, over}
+use Rattle.engine.specs.Areas.{part, over, cut64, put}
 
 pub length-over : (m : List ℕ) (a : ℕ) (xs : List ℕ) → a + length xs ≤ length m → length (over m a xs) ≡ length m
 length-over m a xs h =
@@ -69,3 +70,37 @@ every-drop p (suc n) (x ∷ xs) e = every-drop p n xs (and-parts (p x) _ e .1)
 pub every-over : (p : ℕ → Bool) (m : List ℕ) (a : ℕ) (xs : List ℕ) → every p m ≡ true → every p xs ≡ true → every p (over m a xs) ≡ true
 every-over p m a xs e f =
     every-append p (take a m) _ (every-take p a m e) (every-append p xs _ f (every-drop p (length xs) (drop a m) (every-drop p a m e)))
+
+-- a memory that never grows
+cut-small : (xs : List ℕ) → every (λ x. ltb x (2 ^ 64)) xs ≡ true → cut64 xs ≡ xs
+cut-small [] e = refl
+cut-small (x ∷ xs) e =
+    let a = and-parts (ltb x (2 ^ 64)) _ e in
+    let h = ltb-true _ _ (a .0) in
+    let b : x % 2 ^ 64 ≡ x = omega arith in
+    let c = cut-small xs (a .1) in
+    rw (b, c)
+
+small-cut : (xs : List ℕ) → every (λ x. ltb x (2 ^ 64)) (cut64 xs) ≡ true
+small-cut [] = refl
+small-cut (x ∷ xs) = and-from _ _ (lt-ltb (x % 2 ^ 64) (2 ^ 64) (omega arith)) (small-cut xs)
+
+pub put-over : (m : List ℕ) (a : ℕ) (xs : List ℕ) → a + length xs ≤ length m → every (λ x. ltb x (2 ^ 64)) xs ≡ true → put m a xs ≡ over m a xs
+unfolding put
+put-over m a xs h e =
+    ap (λ (ys : List ℕ). take (length m) (over m a ys)) (cut-small xs e) ∙ take-all (length m) (over m a xs) (let l = length-over m a xs h in omega arith)
+
+pub length-put : (m : List ℕ) (a : ℕ) (xs : List ℕ) → length (put m a xs) ≡ length m
+unfolding put
+length-put m a xs =
+    let ys = cut64 xs in
+    let l₀ = length-take a m in
+    let l₁ = length-append (take a m) (ys ++ drop (length ys) (drop a m)) in
+    let l₂ = length-append ys (drop (length ys) (drop a m)) in
+    let l₃ = length-drop (length ys) (drop a m) in
+    let l₄ = length-drop a m in
+    length-take (length m) (over m a ys) ∙ omega arith
+
+pub small-put : (m : List ℕ) (a : ℕ) (xs : List ℕ) → every (λ x. ltb x (2 ^ 64)) m ≡ true → every (λ x. ltb x (2 ^ 64)) (put m a xs) ≡ true
+unfolding put
+small-put m a xs e = every-take (λ x. ltb x (2 ^ 64)) (length m) _ (every-over (λ x. ltb x (2 ^ 64)) m a (cut64 xs) e (small-cut xs))

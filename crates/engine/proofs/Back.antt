@@ -8,7 +8,9 @@ use lib.ListN.{length, getD, take, drop}
 use native.Mathlib.Omega.{arith}
 use native.Mathlib.Nat.{mul-le-mul-right, mul-le-mul}
 use Rattle.std.proofs.shelf.Tests.{and-from, eq-eqb, eqb-true, and-parts, lt-ltb, le-leb, or-right}
-use Rattle.meaning.specs.Words.{pick}
+use Rattle.std.proofs.shelf.Ways.{decides-ltb}
+use Rattle.meaning.proofs.Edits.{decides-every}
+use Rattle.meaning.specs.Words.{pick, every}
 use Rattle.meaning.specs.Screen.{Cell, Term, with-rows, with-answer}
 use Rattle.meaning.specs.Panes.{Glass}
 use Rattle.grid.specs.Cells.{packed, unpacked, style-of, rows-of, cells-of}
@@ -21,10 +23,10 @@ use Rattle.render.specs.Pens.{rendition-of}
 use Rattle.render_law.specs.Law.{Fits}
 use Rattle.engine.specs.Areas.{part, over}
 use Rattle.engine.specs.State.{View, State, state}
-use Rattle.engine.specs.Memory.{memory-size, header-at, screen-at, cells-at, head-fits, memory-fits, decode, encode, head-of, glass-from, view-from, pen-from, terminal-from, rendition-number}
+use Rattle.engine.specs.Memory.{memory-size, header-at, screen-at, cells-at, head-fits, memory-fits, decode, encode, head-of, glass-from, view-from, pen-from, terminal-from, rendition-number, has-pane, pane-number}
 use Rattle.engine.proofs.Core.{One, one-glass, empty}
 use Rattle.engine.proofs.Machine.{Viewed}
-use Rattle.engine.proofs.Maps.{Found, Found-two, all-areas, two-areas, all-found, two-found}
+use Rattle.engine.proofs.Maps.{Found, Found-two, all-areas, two-areas, all-found, two-found, all-put, two-put}
 
 yes-bit : (b : Bool) → yes (bit b) ≡ b
 yes-bit true = refl
@@ -71,6 +73,7 @@ pub record Kept (u : One) : Type 0 where
   pub silent : u .term .answer ≡ []
   pub long : length (cells-of (u .term .rows)) ≡ u .term .high * u .term .wide
   pub rows : rows-of (u .term .wide) (u .term .high) (cells-of (u .term .rows)) ≡ u .term .rows
+  pub small : every (λ x. ltb x (2 ^ 64)) (cells-of (u .term .rows)) ≡ true
   pub number : u .id < 2 ^ 47
 
 -- sizes that memory has room for
@@ -88,20 +91,46 @@ header-long : (t : Term) → In-range t → length (header-of t) ≡ 64
 unfolding header-fits
 header-long t r = eqb-true _ _ (and-parts (eqb (length (header-of t)) 64) _ (loads-back t r .0) .0)
 
+-- the numbers of the head
+head-small : (g : Glass) (v : View) → Sized g → Viewed g v → pane-number (g .panes) < 2 ^ 47 → every (λ x. ltb x (2 ^ 64)) (head-of g v) ≡ true
+head-small g v s o i =
+    let p = o .pen in
+    let bits : (b : Bool) → bit b < 2 = λ b. elim b as (λ (x : Bool). bit x < 2) [ true ↦ omega arith | false ↦ omega arith ] in
+    let a = bits (g .attached) in let b = bits (g .prefix) in let c = bits (has-pane (g .panes)) in let d = bits (v .pen .pending) in let e = bits (v .pen .visible) in
+    let n : rendition-number (v .pen .rendition) < 2 ^ 64 = (let x = p .marks in let y = p .fore in let z = p .ground in omega arith) in
+    let r = p .row in let q = p .col in let w = s .wide in let h = s .high in let k = s .next in
+    decides-every (λ x. ltb x (2 ^ 64)) (λ x. x < 2 ^ 64) (λ x. decides-ltb x (2 ^ 64)) (head-of g v) .1
+      (omega arith, (omega arith, (omega arith, (omega arith, (omega arith, (omega arith, (omega arith, (omega arith, (omega arith, (omega arith, (omega arith, (n, (omega arith, (omega arith, (omega arith, (omega arith, tt))))))))))))))))
+
+header-small : (t : Term) → In-range t → every (λ x. ltb x (2 ^ 64)) (header-of t) ≡ true
+header-small t r = decides-every (λ x. ltb x (2 ^ 64)) (λ x. x < 2 ^ 64) (λ x. decides-ltb x (2 ^ 64)) (header-of t) .1 (loads-back t r .2)
+
 found-one : (m : List ℕ) (u : One) (v : View) → length m ≡ memory-size → Sized (one-glass u) → Kept u → Viewed (one-glass u) v
     → Found (encode m (state (one-glass u) v)) (head-of (one-glass u) v) (header-of (u .term)) (v .cells) (cells-of (u .term .rows))
 unfolding encode
 found-one m u v lm s k o =
     let r = k .range in
-    all-found m (head-of (one-glass u) v) (header-of (u .term)) (v .cells) (cells-of (u .term .rows)) lm refl (header-long (u .term) r)
-    (let l = o .long in let c = few-cells (u .wide) (u .high) (s .wide) (s .high) in omega arith)
-    (let l = k .long in let c = few-cells (u .term .wide) (u .term .high) (r .narrow) (r .low) in omega arith)
+    let g = one-glass u in
+    let hs = head-of g v in
+    let hd = header-of (u .term) in
+    let vs = v .cells in
+    let ps = cells-of (u .term .rows) in
+    let ld = header-long (u .term) r in
+    let lv : length vs ≤ 12000 = (let l = o .long in let c = few-cells (u .wide) (u .high) (s .wide) (s .high) in omega arith) in
+    let lp : length ps ≤ 12000 = (let l = k .long in let c = few-cells (u .term .wide) (u .term .high) (r .narrow) (r .low) in omega arith) in
+    subst (λ (e : List ℕ). Found e hs hd vs ps)
+      (sym (all-put m hs hd vs ps lm refl ld lv lp (head-small g v s o (k .number)) (header-small (u .term) r) (o .small) (k .small)))
+      (all-found m hs hd vs ps lm refl ld lv lp)
 
 found-empty : (m : List ℕ) (w h n : ℕ) (a p : Bool) (v : View) → length m ≡ memory-size → Sized (empty w h a n p) → Viewed (empty w h a n p) v
     → Found-two (encode m (state (empty w h a n p) v)) (head-of (empty w h a n p) v) (v .cells)
 unfolding encode
 found-empty m w h n a p v lm s o =
-    two-found m (head-of (empty w h a n p) v) (v .cells) lm refl (let l = o .long in let c = few-cells w h (s .wide) (s .high) in omega arith)
+    let g = empty w h a n p in
+    let lv : length (v .cells) ≤ 12000 = (let l = o .long in let c = few-cells w h (s .wide) (s .high) in omega arith) in
+    subst (λ (e : List ℕ). Found-two e (head-of g v) (v .cells))
+      (sym (two-put m (head-of g v) (v .cells) lm refl lv (head-small g v s o (omega arith)) (o .small)))
+      (two-found m (head-of g v) (v .cells) lm refl lv)
 
 -- a memory that is in use
 decoded : (e head : List ℕ) → part e 0 16 ≡ head → getD head 0 0 ≡ 1 → decode e ≡ state (glass-from head (terminal-from (part e header-at 64) (drop cells-at e))) (view-from head (drop screen-at e))

@@ -227,7 +227,7 @@ small-blanks : (n : ℕ) → every (λ x. ltb x (2 ^ 64)) (so-many n blank-numbe
 small-blanks zero = refl
 small-blanks (suc n) = small-blanks n
 
-fresh-viewed : (g : Glass) (w h : ℕ) → g .wide ≡ w → g .high ≡ h → 0 < w → 0 < h → Viewed g (fresh-view w h)
+pub fresh-viewed : (g : Glass) (w h : ℕ) → g .wide ≡ w → g .high ≡ h → 0 < w → 0 < h → Viewed g (fresh-view w h)
 fresh-viewed g w h e f a b =
     record {
       is-wide = sym e;

@@ -8,3 +8,4 @@ pub mod Machine
 pub mod Pictures
 pub mod Back
 pub mod Good
+pub mod Whole

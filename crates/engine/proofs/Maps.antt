@@ -1,12 +1,15 @@
 -- The areas of the memory lie apart: what is put into each is found there.
 use mathlib.Core.Path.{_≡_, refl, sym, ap, _∙_}
+use mathlib.Core.Bool.{true}
 use mathlib.Core.List.{List, [], _∷_, _++_}
-use Prim.Native.Nat.{ℕ, _+_, _≤_, _<_}
+use Prim.Native.Nat.{ℕ, _+_, _^_, _≤_, _<_}
+use lib.Dec.{ltb}
 use lib.ListN.{length, take, drop}
 use native.Mathlib.Omega.{arith}
-use Rattle.engine.specs.Areas.{part, over}
+use Rattle.meaning.specs.Words.{every}
+use Rattle.engine.specs.Areas.{part, over, put}
 use Rattle.engine.specs.Memory.{memory-size, header-at, screen-at, cells-at}
-use Rattle.engine.proofs.Areas.{length-over, part-over, part-over-below, part-over-above}
+use Rattle.engine.proofs.Areas.{length-over, part-over, part-over-above, put-over}
 
 pub record Placed : Type 0 where
   pub size : memory-size ≡ 238304
@@ -69,3 +72,27 @@ two-found m head vs lm lh lv =
       head-is = ap (λ (n : ℕ). part (over m₁ 0 head) 0 n) (sym lh) ∙ part-over m₁ 0 head (omega arith);
       screen-is = part-over-above m₁ 0 head screen-at (length vs) (omega arith) (omega arith) ∙ part-over m screen-at vs (omega arith);
     }
+
+-- put into the memory, where they fit, they are written over
+pub all-put : (m head hdr vs ps : List ℕ) → length m ≡ memory-size → length head ≡ 16 → length hdr ≡ 64 → length vs ≤ 12000 → length ps ≤ 12000
+    → every (λ x. ltb x (2 ^ 64)) head ≡ true → every (λ x. ltb x (2 ^ 64)) hdr ≡ true → every (λ x. ltb x (2 ^ 64)) vs ≡ true → every (λ x. ltb x (2 ^ 64)) ps ≡ true
+    → put (put (put (put m cells-at ps) screen-at vs) header-at hdr) 0 head ≡ all-areas m head hdr vs ps
+all-put m head hdr vs ps lm lh ld lv lp sh sd sv sp =
+    let k = placed in
+    let m₁ = over m cells-at ps in
+    let m₂ = over m₁ screen-at vs in
+    let m₃ = over m₂ header-at hdr in
+    let l₁ = length-over m cells-at ps (omega arith) in
+    let l₂ = length-over m₁ screen-at vs (omega arith) in
+    let l₃ = length-over m₂ header-at hdr (omega arith) in
+    ap (λ (x : List ℕ). put (put (put x screen-at vs) header-at hdr) 0 head) (put-over m cells-at ps (omega arith) sp)
+    ∙ (ap (λ (x : List ℕ). put (put x header-at hdr) 0 head) (put-over m₁ screen-at vs (omega arith) sv)
+    ∙ (ap (λ (x : List ℕ). put x 0 head) (put-over m₂ header-at hdr (omega arith) sd) ∙ put-over m₃ 0 head (omega arith) sh))
+
+pub two-put : (m head vs : List ℕ) → length m ≡ memory-size → length head ≡ 16 → length vs ≤ 12000
+    → every (λ x. ltb x (2 ^ 64)) head ≡ true → every (λ x. ltb x (2 ^ 64)) vs ≡ true → put (put m screen-at vs) 0 head ≡ two-areas m head vs
+two-put m head vs lm lh lv sh sv =
+    let k = placed in
+    let m₁ = over m screen-at vs in
+    let l₁ = length-over m screen-at vs (omega arith) in
+    ap (λ (x : List ℕ). put x 0 head) (put-over m screen-at vs (omega arith) sv) ∙ put-over m₁ 0 head (omega arith) sh

@@ -136,7 +136,7 @@ unfolding cells-of
 small-cells [] f = refl
 small-cells (r ∷ rs) f = every-append (λ x. ltb x (2 ^ 64)) (map packed r) (cells-of rs) (small-row r (f .0)) (small-cells rs (f .1))
 
-every-fine : (rs : Rows) → All Fine-row rs → every (λ r. every fine-cell r) rs ≡ true
+pub every-fine : (rs : Rows) → All Fine-row rs → every (λ r. every fine-cell r) rs ≡ true
 every-fine [] f = refl
 every-fine (r ∷ rs) f = and-from _ _ (row r (f .0)) (every-fine rs (f .1))
   where

@@ -24,7 +24,7 @@ use Rattle.grid.specs.declared.cell.Rendition.{Rendition}
 use Rattle.header.specs.Header.{yes, bit, header-fits, term-from, header-of}
 use Rattle.render.specs.declared.pen.Pen.{Pen}
 use Rattle.render.specs.Pens.{rendition-of}
-use Rattle.engine.specs.Areas.{part, over}
+use Rattle.engine.specs.Areas.{part, put}
 use Rattle.engine.specs.State.{View, State, state, fresh-view}
 
 -- how many numbers the memory has: 256 for the head, 64 for each of 32 panes, 12,000 for the viewer's screen and as many twice more for work, and
@@ -106,12 +106,12 @@ head-of g v =
 
 abbrev pub with-cells : List ℕ → List Pane → List ℕ
 with-cells m [] = m
-with-cells m (p ∷ ps) = over m cells-at (cells-of (p .term .rows))
+with-cells m (p ∷ ps) = put m cells-at (cells-of (p .term .rows))
 
 abbrev pub with-header : List ℕ → List Pane → List ℕ
 with-header m [] = m
-with-header m (p ∷ ps) = over m header-at (header-of (p .term))
+with-header m (p ∷ ps) = put m header-at (header-of (p .term))
 
 -- the memory with a state put into it, area by area from above
 unfoldable pub encode : List ℕ → State → List ℕ
-encode m s = over (with-header (over (with-cells m (s .glass .panes)) screen-at (s .view .cells)) (s .glass .panes)) 0 (head-of (s .glass) (s .view))
+encode m s = put (with-header (put (with-cells m (s .glass .panes)) screen-at (s .view .cells)) (s .glass .panes)) 0 (head-of (s .glass) (s .view))
