@@ -7,3 +7,4 @@ pub mod Edits
 pub mod Sound
 pub mod Drawable
 pub mod Reports
+pub mod Readings
