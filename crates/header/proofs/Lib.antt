@@ -3,3 +3,4 @@ pub mod Parts
 pub mod Refused
 pub mod Same
 pub mod Laws
+pub mod Ranges

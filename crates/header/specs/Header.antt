@@ -23,7 +23,9 @@ use lib.Dec.{eqb, ltb, leb}
 use lib.ListN.{length, getD, take, drop, replicate}
 use Rattle.std.specs.shelf.Lists.{All}
 use Rattle.meaning.specs.Words.{pick, every}
-use Rattle.meaning.specs.Screen.{Style, Cell, Term, Saved, Reading, ground, escape, sequence, passed, string, string-end, with-rows, with-answer}
+use Rattle.meaning.specs.Screen.{Style, Cell, Term, Saved, Reading, ground, escape, sequence, passed, string, string-end, with-rows, with-answer, fresh, fitted}
+use Rattle.meaning.specs.Bytes.{written}
+use Rattle.meaning.specs.Laws.{good, fine-screen}
 use Rattle.grid.specs.Cells.{packed, unpacked}
 
 abbrev pub yes : ℕ → Bool
@@ -166,3 +168,13 @@ Loads-back =
     (t : Term) → In-range t →
     (header-fits (header-of t) ≡ true) × ((rs : List (List Cell)) (a : List ℕ) → term-from (header-of t) rs a ≡ with-answer (with-rows t rs) a)
     × All (λ n. n < 2 ^ 64) (header-of t)
+
+-- Whatever is written on a screen that is good and can be drawn, a header can still hold it; and so it can after another size, and as it comes up.
+abbrev pub Stays-in-range : Type 0
+Stays-in-range = (t : Term) (cs : List ℕ) → good t ≡ true → fine-screen t ≡ true → In-range t → In-range (written t cs)
+
+abbrev pub Fitted-in-range : Type 0
+Fitted-in-range = (t : Term) (w h : ℕ) → 0 < w → w ≤ 200 → 0 < h → h ≤ 60 → In-range t → In-range (fitted t w h)
+
+abbrev pub Fresh-in-range : Type 0
+Fresh-in-range = (w h : ℕ) → 0 < w → w ≤ 200 → 0 < h → h ≤ 60 → In-range (fresh w h)

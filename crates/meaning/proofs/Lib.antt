@@ -9,3 +9,4 @@ pub mod Cellwise
 pub mod Drawable
 pub mod Small
 pub mod Reports
+pub mod Readings
