@@ -100,7 +100,7 @@ head-small g v s o i =
     let n : rendition-number (v .pen .rendition) < 2 ^ 64 = (let x = p .marks in let y = p .fore in let z = p .ground in omega arith) in
     let r = p .row in let q = p .col in let w = s .wide in let h = s .high in let k = s .next in
     decides-every (λ x. ltb x (2 ^ 64)) (λ x. x < 2 ^ 64) (λ x. decides-ltb x (2 ^ 64)) (head-of g v) .1
-      (omega arith, (omega arith, (omega arith, (omega arith, (omega arith, (omega arith, (omega arith, (omega arith, (omega arith, (omega arith, (omega arith, (n, (omega arith, (omega arith, (omega arith, (omega arith, tt))))))))))))))))
+    (omega arith, (omega arith, (omega arith, (omega arith, (omega arith, (omega arith, (omega arith, (omega arith, (omega arith, (omega arith, (omega arith, (n, (omega arith, (omega arith, (omega arith, (omega arith, tt))))))))))))))))
 
 header-small : (t : Term) → In-range t → every (λ x. ltb x (2 ^ 64)) (header-of t) ≡ true
 header-small t r = decides-every (λ x. ltb x (2 ^ 64)) (λ x. x < 2 ^ 64) (λ x. decides-ltb x (2 ^ 64)) (header-of t) .1 (loads-back t r .2)
@@ -119,8 +119,8 @@ found-one m u v lm s k o =
     let lv : length vs ≤ 12000 = (let l = o .long in let c = few-cells (u .wide) (u .high) (s .wide) (s .high) in omega arith) in
     let lp : length ps ≤ 12000 = (let l = k .long in let c = few-cells (u .term .wide) (u .term .high) (r .narrow) (r .low) in omega arith) in
     subst (λ (e : List ℕ). Found e hs hd vs ps)
-      (sym (all-put m hs hd vs ps lm refl ld lv lp (head-small g v s o (k .number)) (header-small (u .term) r) (o .small) (k .small)))
-      (all-found m hs hd vs ps lm refl ld lv lp)
+    (sym (all-put m hs hd vs ps lm refl ld lv lp (head-small g v s o (k .number)) (header-small (u .term) r) (o .small) (k .small)))
+    (all-found m hs hd vs ps lm refl ld lv lp)
 
 found-empty : (m : List ℕ) (w h n : ℕ) (a p : Bool) (v : View) → length m ≡ memory-size → Sized (empty w h a n p) → Viewed (empty w h a n p) v
     → Found-two (encode m (state (empty w h a n p) v)) (head-of (empty w h a n p) v) (v .cells)
@@ -129,8 +129,8 @@ found-empty m w h n a p v lm s o =
     let g = empty w h a n p in
     let lv : length (v .cells) ≤ 12000 = (let l = o .long in let c = few-cells w h (s .wide) (s .high) in omega arith) in
     subst (λ (e : List ℕ). Found-two e (head-of g v) (v .cells))
-      (sym (two-put m (head-of g v) (v .cells) lm refl lv (head-small g v s o (omega arith)) (o .small)))
-      (two-found m (head-of g v) (v .cells) lm refl lv)
+    (sym (two-put m (head-of g v) (v .cells) lm refl lv (head-small g v s o (omega arith)) (o .small)))
+    (two-found m (head-of g v) (v .cells) lm refl lv)
 
 -- a memory that is in use
 decoded : (e head : List ℕ) → part e 0 16 ≡ head → getD head 0 0 ≡ 1 → decode e ≡ state (glass-from head (terminal-from (part e header-at 64) (drop cells-at e))) (view-from head (drop screen-at e))

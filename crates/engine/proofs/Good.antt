@@ -8,13 +8,14 @@ use lib.Dec.{eqb, ltb, leb}
 use lib.ListN.{length, length-replicate}
 use native.Mathlib.Omega.{arith}
 use Rattle.std.proofs.shelf.Tests.{and-parts, and-from, cases-bool, cases-eq, eqb-true, ltb-true, leb-true, cond-true, cond-false}
-use Rattle.std.specs.shelf.Lists.{All}
+use Rattle.std.proofs.shelf.Elements.{all-weaker}
 use Rattle.meaning.specs.Words.{pick, every, so-many, larger}
-use Rattle.meaning.specs.Screen.{Term, fresh, fitted, with-answer}
+use Rattle.meaning.specs.Screen.{Term, Reading, ground, escape, sequence, passed, string, string-end, fresh, fitted, with-answer}
 use Rattle.meaning.specs.Bytes.{written}
 use Rattle.meaning.specs.Panes.{Glass, Event, key, from, gone, attach, turn, pane-wide, pane-high, as-large}
 use Rattle.meaning.specs.Promise.{core, proper-event}
 use Rattle.meaning.proofs.Sound.{Sound, Sound-fields, As-wide, sound-written, sound-fitted, sound-fresh}
+use Rattle.meaning.proofs.Readings.{Short, Held, held-written}
 use Rattle.meaning.proofs.Drawable.{Fine, fine-written, fine-fresh, fine-fitted, fine-answer}
 use Rattle.grid.specs.Cells.{blank-number}
 use Rattle.header.specs.Header.{Reading-fits}
@@ -26,10 +27,16 @@ use Rattle.engine.proofs.Pictures.{Pane-ok, pictured-one}
 use Rattle.engine.proofs.Back.{Sized}
 
 -- what the pane's terminal keeps beside its screen fits memory
-pub record Reads (t : Term) : Type 0 where
-  pub parser : Reading-fits (t .reading)
-  pub saved-row : t .saved .row < 2 ^ 64
-  pub saved-col : t .saved .col < 2 ^ 64
+abbrev pub Reads : Term → Type 0
+Reads t = Held 9999 (2 ^ 64) (2 ^ 64) t
+
+pub short-fits : (r : Reading) → Short 9999 r → Reading-fits r
+short-fits ground s = tt
+short-fits escape s = tt
+short-fits (sequence private ps now) s = (s .0, all-weaker _ _ (λ n h. omega arith) ps (s .1), s .2, all-weaker _ _ (λ n h. omega arith) now (s .3))
+short-fits passed s = tt
+short-fits string s = tt
+short-fits string-end s = tt
 
 -- n more things may come, and the panes' numbers stay small
 pub record One-ok (n : ℕ) (u : One) : Type 0 where
@@ -93,10 +100,10 @@ room-high : (w h : ℕ) → Proper-size w h → pane-high (room-of w h) ≡ h - 
 room-high w h p = let a = p .some-high in omega arith
 
 fitted-reads : (t : Term) (w h : ℕ) → Reads t → Reads (fitted t w h)
-fitted-reads t w h r = record { parser = r .parser; saved-row = omega arith; saved-col = omega arith }
+fitted-reads t w h r = record { saved-row = omega arith; saved-col = omega arith; short = r .short }
 
 fresh-reads : (w h : ℕ) → Reads (fresh w h)
-fresh-reads w h = record { parser = tt; saved-row = omega arith; saved-col = omega arith }
+fresh-reads w h = record { saved-row = omega arith; saved-col = omega arith; short = tt }
 
 -- what is kept of the pane's terminal at another size
 record Fitted-ok (w h : ℕ) (t : Term) : Type 0 where
@@ -124,7 +131,7 @@ resized-ok n u w h p o = go (cases-bool (as-large (room-of w h) (u .term)))
         let d = room-high w h p in
         let s : Sound w (h - 1) t = subst (λ (k : ℕ). Sound k (h - 1) t) c (subst (λ (k : ℕ). Sound (pane-wide (room-of w h)) k t) d (sound-fitted _ _ (u .term) (omega arith) (omega arith))) in
         subst (Fitted-ok w h) (sym (cond-false (as-large (room-of w h) (u .term)) _ _ a))
-        (record { sound = s; fine = fine-fitted (u .term) _ _ (q .fine); reads = fitted-reads (u .term) _ _ (o .reads); silent = o .silent })
+        (record { sound = s; fine = fine-fitted (u .term) _ _ (q .fine); reads = fitted-reads (u .term) (pane-wide (room-of w h)) (pane-high (room-of w h)) (o .reads); silent = o .silent })
 
 attach-ok : (n : ℕ) (u : One) (w h : ℕ) → Proper-size w h → One-ok n u → One-ok n (resized u w h)
 attach-ok n u w h p o =
@@ -151,56 +158,55 @@ start-ok n k w h p l =
         sound = subst (λ (j : ℕ). Sound j (h - 1) t) c (subst (λ (j : ℕ). Sound (pane-wide (room-of w h)) j t) d (sound-fresh _ _ (omega arith) (omega arith)));
         fine = fine-fresh _ _;
       };
-      reads = fresh-reads _ _;
+      reads = fresh-reads (pane-wide (room-of w h)) (pane-high (room-of w h));
       silent = refl;
       number = omega arith;
       left = omega arith;
     }
 
-module _ (reads-written : (w h : ℕ) (t : Term) (bs : List ℕ) → w ≤ 200 → h ≤ 60 → Sound w h t → Reads t → Reads (written t bs)) where
-  from-ok : (n : ℕ) (u : One) (bs : List ℕ) → One-ok n u → One-ok n (with-term u (with-answer (written (u .term) bs) []))
-  from-ok n u bs o =
-      let p = o .pane in
-      let r = reads-written (u .wide) (u .high - 1) (u .term) bs (p .wide) (let h = p .high in omega arith) (p .sound) (o .reads) in
-      record {
-        pane = record {
-          some-wide = p .some-wide;
-          wide = p .wide;
-          some-high = p .some-high;
-          high = p .high;
-          sound = sound-written (u .wide) (u .high - 1) (u .term) bs (p .sound);
-          fine = fine-answer (written (u .term) bs) [] (fine-written (u .term) bs (p .fine));
-        };
-        reads = record { parser = r .parser; saved-row = r .saved-row; saved-col = r .saved-col };
-        silent = refl;
-        number = o .number;
-        left = o .left;
-      }
+from-ok : (n : ℕ) (u : One) (bs : List ℕ) → One-ok n u → One-ok n (with-term u (with-answer (written (u .term) bs) []))
+from-ok n u bs o =
+    let p = o .pane in
+    let r = held-written (u .wide) (u .high - 1) 9999 (2 ^ 64) (2 ^ 64) (omega arith) (let h = p .high in omega arith) (let w = p .wide in omega arith) (u .term) bs (p .sound) (o .reads) in
+    record {
+      pane = record {
+        some-wide = p .some-wide;
+        wide = p .wide;
+        some-high = p .some-high;
+        high = p .high;
+        sound = sound-written (u .wide) (u .high - 1) (u .term) bs (p .sound);
+        fine = fine-answer (written (u .term) bs) [] (fine-written (u .term) bs (p .fine));
+      };
+      reads = r;
+      silent = refl;
+      number = o .number;
+      left = o .left;
+    }
 
-  gone-ok : (n : ℕ) (u : One) → One-ok n u → Empty-ok n (empty (u .wide) (u .high) true (u .next) (u .prefix))
-  gone-ok n u o = let p = o .pane in record { is = refl; some-wide = p .some-wide; wide = p .wide; some-high = (let h = p .some-high in omega arith); high = p .high; left = o .left }
+gone-ok : (n : ℕ) (u : One) → One-ok n u → Empty-ok n (empty (u .wide) (u .high) true (u .next) (u .prefix))
+gone-ok n u o = let p = o .pane in record { is = refl; some-wide = p .some-wide; wide = p .wide; some-high = (let h = p .some-high in omega arith); high = p .high; left = o .left }
 
-  less : (n w h k : ℕ) (a p q : Bool) → Empty-ok (suc n) (empty w h a k p) → Empty-ok n (empty w h a k q)
-  less n w h k a p q o = record { is = refl; some-wide = o .some-wide; wide = o .wide; some-high = o .some-high; high = o .high; left = (let l = o .left in omega arith) }
+less : (n w h k : ℕ) (a p q : Bool) → Empty-ok (suc n) (empty w h a k p) → Empty-ok n (empty w h a k q)
+less n w h k a p q o = record { is = refl; some-wide = o .some-wide; wide = o .wide; some-high = o .some-high; high = o .high; left = (let l = o .left in omega arith) }
 
-  one-turn : (n : ℕ) (u : One) (ev : Event) → proper-event ev ≡ true → One-ok n u → Good n (turn core (one-glass u) ev .next)
-  one-turn n u (key c) p o = let k = key-next u c in as-one n _ (with-prefix u (k .0)) (k .1) (record { pane = record { some-wide = o .pane .some-wide; wide = o .pane .wide; some-high = o .pane .some-high; high = o .pane .high; sound = o .pane .sound; fine = o .pane .fine }; reads = o .reads; silent = o .silent; number = o .number; left = o .left })
-  one-turn n u (from i bs) p o = elim (cases-eq (u .id) i) [
-    | inl e ↦ subst (λ (j : ℕ). Good n (turn core (one-glass u) (from j bs) .next)) e (as-one n _ _ (from-next u bs) (from-ok n u bs o))
-    | inr e ↦ as-one n _ u (from-other u i bs e .0) o
-  ]
-  one-turn n u (gone i) p o = elim (cases-eq (u .id) i) [
-    | inl e ↦ subst (λ (j : ℕ). Good n (turn core (one-glass u) (gone j) .next)) e (as-none n _ _ _ _ _ _ (gone-next u .0) (gone-ok n u o))
-    | inr e ↦ as-one n _ u (gone-other u i e .0) o
-  ]
-  one-turn n u (attach w h) p o = as-one n _ (resized u w h) (attach-next u w h .0) (attach-ok n u w h (proper-size w h p) o)
+one-turn : (n : ℕ) (u : One) (ev : Event) → proper-event ev ≡ true → One-ok n u → Good n (turn core (one-glass u) ev .next)
+one-turn n u (key c) p o = let k = key-next u c in as-one n _ (with-prefix u (k .0)) (k .1) (record { pane = record { some-wide = o .pane .some-wide; wide = o .pane .wide; some-high = o .pane .some-high; high = o .pane .high; sound = o .pane .sound; fine = o .pane .fine }; reads = o .reads; silent = o .silent; number = o .number; left = o .left })
+one-turn n u (from i bs) p o = elim (cases-eq (u .id) i) [
+  | inl e ↦ subst (λ (j : ℕ). Good n (turn core (one-glass u) (from j bs) .next)) e (as-one n _ _ (from-next u bs) (from-ok n u bs o))
+  | inr e ↦ as-one n _ u (from-other u i bs e .0) o
+]
+one-turn n u (gone i) p o = elim (cases-eq (u .id) i) [
+  | inl e ↦ subst (λ (j : ℕ). Good n (turn core (one-glass u) (gone j) .next)) e (as-none n _ _ _ _ _ _ (gone-next u .0) (gone-ok n u o))
+  | inr e ↦ as-one n _ u (gone-other u i e .0) o
+]
+one-turn n u (attach w h) p o = as-one n _ (resized u w h) (attach-next u w h .0) (attach-ok n u w h (proper-size w h p) o)
 
-  pub turn-good : (n : ℕ) (g : Glass) (ev : Event) → proper-event ev ≡ true → Good (suc n) g → Good n (turn core g ev .next)
-  turn-good n _ ev p (one u o) = one-turn n u ev p (fewer n u o)
-  turn-good n _ (key c) p (none w h k a b o) = let e = key-empty w h k a b c in as-none n _ w h k a (e .0) (e .1) (less n w h k a b (e .0) o)
-  turn-good n _ (from i bs) p (none w h k a b o) = as-none n _ w h k a b (from-empty w h k a b i bs .0) (less n w h k a b b o)
-  turn-good n _ (gone i) p (none w h k a b o) = as-none n _ w h k a b (gone-empty w h k a b i .0) (less n w h k a b b o)
-  turn-good n _ (attach w₁ h₁) p (none w h k a b o) = as-one n _ (started w₁ h₁ k) (first-attach w₁ h₁ w h k a b .0) (start-ok n k w₁ h₁ (proper-size w₁ h₁ p) (o .left))
+pub turn-good : (n : ℕ) (g : Glass) (ev : Event) → proper-event ev ≡ true → Good (suc n) g → Good n (turn core g ev .next)
+turn-good n _ ev p (one u o) = one-turn n u ev p (fewer n u o)
+turn-good n _ (key c) p (none w h k a b o) = let e = key-empty w h k a b c in as-none n _ w h k a (e .0) (e .1) (less n w h k a b (e .0) o)
+turn-good n _ (from i bs) p (none w h k a b o) = as-none n _ w h k a b (from-empty w h k a b i bs .0) (less n w h k a b b o)
+turn-good n _ (gone i) p (none w h k a b o) = as-none n _ w h k a b (gone-empty w h k a b i .0) (less n w h k a b b o)
+turn-good n _ (attach w₁ h₁) p (none w h k a b o) = as-one n _ (started w₁ h₁ k) (first-attach w₁ h₁ w h k a b .0) (start-ok n k w₁ h₁ (proper-size w₁ h₁ p) (o .left))
 
 pub few-says : (n : ℕ) (g : Glass) (ev : Event) → Good n g → length (turn core g ev .says) ≤ 1
 few-says n _ (key c) (one u o) = key-next u c .2

@@ -32,7 +32,7 @@ use Rattle.engine.proofs.Core.{One, one-glass, empty}
 use Rattle.engine.proofs.Machine.{Viewed, all-right}
 use Rattle.engine.proofs.Pictures.{Pane-ok, small-cells, every-fine}
 use Rattle.engine.proofs.Back.{Kept, Sized, back-one, back-empty, fits-one, fits-empty, long-one, long-empty}
-use Rattle.engine.proofs.Good.{Good, one, none, One-ok, Empty-ok, Reads, pictured, sized, turn-good, turn-viewed, few-says, fresh-viewed}
+use Rattle.engine.proofs.Good.{Good, one, none, One-ok, Empty-ok, short-fits, pictured, sized, turn-good, turn-viewed, few-says, fresh-viewed}
 
 -- the pane can be kept in memory
 kept-one : (n : ℕ) (u : One) → One-ok n u → Kept u
@@ -49,14 +49,26 @@ kept-one n u o =
     let l : length (t .rows) ≡ t .high = s .as-high ∙ sym h in
     record {
       range = record {
-        some-wide = omega arith; narrow = omega arith; some-high = omega arith; low = omega arith; on-row = omega arith; on-col = omega arith;
-        ordered = s .ordered; inside = omega arith; writes = (a .marks, a .fore, a .ground);
-        saved-row = o .reads .saved-row; saved-col = o .reads .saved-col; saves = (b .marks, b .fore, b .ground); reads = o .reads .parser };
+        some-wide = omega arith;
+        narrow = omega arith;
+        some-high = omega arith;
+        low = omega arith;
+        on-row = omega arith;
+        on-col = omega arith;
+        ordered = s .ordered;
+        inside = omega arith;
+        writes = (a .marks, a .fore, a .ground);
+        saved-row = o .reads .saved-row;
+        saved-col = o .reads .saved-col;
+        saves = (b .marks, b .fore, b .ground);
+        reads = short-fits (t .reading) (o .reads .short);
+      };
       silent = o .silent;
       long = length-cells (t .wide) (t .rows) (rw w (s .as-wide)) ∙ ap (λ (k : ℕ). k * t .wide) l;
       rows = ap (λ (k : ℕ). rows-of (t .wide) k (cells-of (t .rows))) (sym l) ∙ rows-of-cells (t .wide) (t .rows) (rw w (s .as-wide)) (every-fine (t .rows) (p .fine .cells));
       small = small-cells (t .rows) (p .fine .cells);
-      number = o .number }
+      number = o .number;
+    }
 
 -- a good state is found again, and seen to be there
 back : (n : ℕ) (m : List ℕ) (g : Glass) (v : View) → length m ≡ memory-size → Good n g → Viewed g v → decode (encode m (state g v)) ≡ state g v
@@ -104,6 +116,7 @@ steady-core =
   where
     after : List ℕ → Told-it → Step
     after m ev = pick (memory-fits m) (kept encode m (stepped core (decode m) ev)) (record { memory = m; act = wait })
+
     step : (m : List ℕ) (ev : Told-it) → (memory-fits m ≡ true) ⊎ (memory-fits m ≡ false)
         → (length (after m ev .memory) ≡ length m) × (every (λ x. ltb x (2 ^ 64)) m ≡ true → every (λ x. ltb x (2 ^ 64)) (after m ev .memory) ≡ true)
     step m ev (inl f) =
@@ -114,7 +127,7 @@ steady-core =
         (ap (λ (s : Step). length (s .memory)) e, λ h. ap (λ (s : Step). every (λ x. ltb x (2 ^ 64)) (s .memory)) e ∙ h)
 
 -- the start
-zero-first : (n : ℕ) → getD (take 16 (so-many n 0)) 0 0 ≡ 0
+zero-first : (n : ℕ) → getD (take 16 (so-many {A = ℕ} n 0)) 0 0 ≡ 0
 zero-first zero = refl
 zero-first (suc n) = refl
 
@@ -125,3 +138,18 @@ start-fits = and-from _ _ (eq-eqb _ _ (length-replicate memory-size 0)) (or-left
 start-is : decode (so-many memory-size 0) ≡ state at-first (fresh-view 1 1)
 unfolding decode
 start-is = cond-true _ _ _ (eq-eqb _ _ (zero-first memory-size))
+
+-- nobody has looked yet
+first-good : (n : ℕ) → n ≤ 4294967296 → Good n at-first
+first-good n h = none 1 1 1 false false (record { is = refl; some-wide = omega arith; wide = omega arith; some-high = omega arith; high = omega arith; left = omega arith })
+
+pub whole-core : Whole core core-machine
+unfolding Whole core-machine machine-of
+whole-core = (
+  steady-core,
+  λ evs l p.
+      all-right core (so-many memory-size 0) memory-fits decode encode Good (λ m. length m ≡ memory-size) pictured
+      (λ n m g v r o w. length-encode m (state g v) ∙ r) fit back turn-good turn-viewed few-says
+      evs (so-many memory-size 0) at-first (fresh-view 1 1) (fresh 1 1) (sym (writer-law .begins 1 1)) p
+      (record { does-fit = start-fits; is = start-is; has-room = length-replicate {A = ℕ} memory-size 0; good = first-good (length evs) l; viewed = fresh-viewed at-first 1 1 refl refl (omega arith) (omega arith) }),
+)
