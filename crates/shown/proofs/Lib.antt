@@ -1,0 +1,3 @@
+pub mod Alike
+pub mod Rows
+pub mod Driving
