@@ -1,20 +1,21 @@
 -- What is stored is loaded again.
 use mathlib.Core.Path.{_≡_, refl, ap, _∙_}
-use mathlib.Core.Bool.{Bool, true, false, _&&_}
+use mathlib.Core.Bool.{Bool, true, false}
 use mathlib.Core.List.{List, [], _∷_, _++_}
-use Prim.Native.Nat.{ℕ, suc, _+_, _-_, _^_, _≤_, _<_}
+use Prim.Native.Nat.{ℕ, _-_, _^_, _≤_, _<_}
 use native.Mathlib.Omega.{arith}
-use lib.Dec.{ltb, leb}
+use lib.Dec.{ltb}
 use lib.ListN.{length, getD, take, replicate, length-append, length-replicate}
 use Rattle.std.specs.shelf.Lists.{All}
 use Rattle.std.proofs.shelf.Lists.{take-take, take-at}
 use Rattle.std.proofs.shelf.Elements.{all-append, all-take, all-weaker}
 use Rattle.std.proofs.shelf.Tests.{and-from, lt-ltb, le-leb}
-use Rattle.std.proofs.shelf.Ways.{tells, decides-ltb}
+use Rattle.std.proofs.shelf.Ways.{decides-ltb}
 use Rattle.meaning.specs.Screen.{Style, Cell, Term, Reading, ground, escape, sequence, passed, string, string-end, with-rows, with-answer}
 use Rattle.meaning.proofs.Edits.{decides-every, all-replicate}
+use Rattle.meaning.specs.Promise.{all-small}
 use Rattle.grid.proofs.Codes.{unpacked-packed}
-use Rattle.header.specs.Header.{yes, bit, style-number, style-from, parameters-fit, reading-fits, begun-from, reading-from, header-fits, term-from, screen-numbers, has-begun, parser-state, parser-numbers, parameters-in, padded, header-of, Style-fits, Reading-fits, In-range, Loads-back}
+use Rattle.header.specs.Header.{yes, bit, style-number, style-from, reading-fits, begun-from, reading-from, header-fits, term-from, screen-numbers, has-begun, parser-state, parser-numbers, parameters-in, padded, header-of, Style-fits, Reading-fits, In-range, Loads-back}
 use Rattle.header.proofs.Refused.{fits}
 
 yes-bit : (b : Bool) → yes (bit b) ≡ b
@@ -204,5 +205,9 @@ header-words t f =
     all-append Word (screen-numbers t) _ (screen-words t f)
     (all-append Word (parser-numbers r) _ (parser-words r (f .reads)) (all-padded Word (omega arith) (parameters-in r) (parameters-words r (f .reads))))
 
+header-small : (t : Term) → In-range t → all-small (header-of t) ≡ true
+unfolding all-small
+header-small t f = decides-every (λ n. ltb n (2 ^ 64)) Word (λ n. decides-ltb n (2 ^ 64)) (header-of t) .1 (header-words t f)
+
 pub loads-back : Loads-back
-loads-back t f = (header-accepted t f, λ rs a. term-back t rs a f, header-words t f)
+loads-back t f = (header-accepted t f, λ rs a. term-back t rs a f, header-small t f)
