@@ -129,8 +129,9 @@ parameters-in passed = []
 parameters-in string = []
 parameters-in string-end = []
 
+-- 32 numbers, whatever the list
 abbrev pub padded : List ℕ → List ℕ
-padded ns = ns ++ replicate (32 - length ns) 0
+padded ns = take 32 ns ++ replicate (32 - length ns) 0
 
 -- the header of a terminal
 unfoldable pub header-of : Term → List ℕ
@@ -162,6 +163,10 @@ pub record In-range (t : Term) : Type 0 where
   pub saved-col : t .saved .col < 2 ^ 64
   pub saves : Style-fits (t .saved .style)
   pub reads : Reading-fits (t .reading)
+
+-- A header is 64 numbers long, whatever the terminal.
+abbrev pub Header-long : Type 0
+Header-long = (t : Term) → length (header-of t) ≡ 64
 
 -- What is stored is loaded again: such a terminal's header is accepted and stands for the same terminal, and its numbers are below 2^64.
 abbrev pub Loads-back : Type 0

@@ -4,11 +4,12 @@ mod storing;
 
 pub use loading::load;
 pub use storing::store;
-ghost use Rattle.header.specs.Header.{Loads-back, Loaded-in-range, Stays-in-range, Fitted-in-range, Fresh-in-range};
+ghost use Rattle.header.specs.Header.{Header-long, Loads-back, Loaded-in-range, Stays-in-range, Fitted-in-range, Fresh-in-range};
 
 // What is stored is loaded again.
 pub fn loads_back_stands() -> u8
-    ensures { λ _. ⌜ Loads-back ⌝ }
+    ensures long { λ _. ⌜ Header-long ⌝ }
+    ensures back { λ _. ⌜ Loads-back ⌝ }
 {
     0
 }
