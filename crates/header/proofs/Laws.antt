@@ -1,20 +1,21 @@
--- What is stored is loaded again.
+-- A header is 64 numbers long, and what is stored is loaded again.
 use mathlib.Core.Path.{_≡_, refl, ap, _∙_}
-use mathlib.Core.Bool.{Bool, true, false, _&&_}
+use mathlib.Core.Bool.{Bool, true, false}
 use mathlib.Core.List.{List, [], _∷_, _++_}
-use Prim.Native.Nat.{ℕ, suc, _+_, _-_, _^_, _≤_, _<_}
+use Prim.Native.Nat.{ℕ, _-_, _^_, _≤_, _<_}
 use native.Mathlib.Omega.{arith}
-use lib.Dec.{ltb, leb}
-use lib.ListN.{length, getD, take, replicate, length-append, length-replicate}
+use lib.Dec.{ltb}
+use lib.ListN.{length, getD, take, replicate, length-append, length-take, length-replicate}
 use Rattle.std.specs.shelf.Lists.{All}
-use Rattle.std.proofs.shelf.Lists.{take-take, take-at}
+use Rattle.std.proofs.shelf.Lists.{take-take, take-all, take-at}
 use Rattle.std.proofs.shelf.Elements.{all-append, all-take, all-weaker}
 use Rattle.std.proofs.shelf.Tests.{and-from, lt-ltb, le-leb}
-use Rattle.std.proofs.shelf.Ways.{tells, decides-ltb}
+use Rattle.std.proofs.shelf.Ways.{decides-ltb}
 use Rattle.meaning.specs.Screen.{Style, Cell, Term, Reading, ground, escape, sequence, passed, string, string-end, with-rows, with-answer}
 use Rattle.meaning.proofs.Edits.{decides-every, all-replicate}
+use Rattle.meaning.specs.Promise.{all-small}
 use Rattle.grid.proofs.Codes.{unpacked-packed}
-use Rattle.header.specs.Header.{yes, bit, style-number, style-from, parameters-fit, reading-fits, begun-from, reading-from, header-fits, term-from, screen-numbers, has-begun, parser-state, parser-numbers, parameters-in, padded, header-of, Style-fits, Reading-fits, In-range, Loads-back}
+use Rattle.header.specs.Header.{yes, bit, style-number, style-from, reading-fits, begun-from, reading-from, header-fits, term-from, screen-numbers, has-begun, parser-state, parser-numbers, parameters-in, padded, header-of, Style-fits, Reading-fits, In-range, Header-long, Loads-back}
 use Rattle.header.proofs.Refused.{fits}
 
 yes-bit : (b : Bool) → yes (bit b) ≡ b
@@ -30,7 +31,10 @@ begun-back (n ∷ []) h = refl
 begun-back (n ∷ (k ∷ ns)) h = absurd (omega arith)
 
 padded-back : (ns : List ℕ) → length ns ≤ 16 → take (length ns) (take 16 (padded ns)) ≡ ns
-padded-back ns h = take-take (length ns) 16 (padded ns) h ∙ take-at ns (replicate (32 - length ns) 0) (length ns) refl
+padded-back ns h =
+    let l : length ns ≤ 32 = omega arith in
+    take-take (length ns) 16 (padded ns) h
+    ∙ (ap (λ (xs : List ℕ). take (length ns) (xs ++ replicate (32 - length ns) 0)) (take-all 32 ns l) ∙ take-at ns (replicate (32 - length ns) 0) (length ns) refl)
 
 -- the numbers of a terminal whose parser is at r
 numbers : Term → Reading → List ℕ
@@ -46,7 +50,7 @@ reading-back t string f = refl
 reading-back t string-end f = refl
 
 all-padded : (P : ℕ → Type 0) → P 0 → (ns : List ℕ) → All P ns → All P (padded ns)
-all-padded P z ns p = all-append P ns _ p (all-replicate P (32 - length ns) 0 z)
+all-padded P z ns p = all-append P (take 32 ns) _ (all-take P 32 ns p) (all-replicate P (32 - length ns) 0 z)
 
 begun-small : (n : ℕ) (now : List ℕ) → 0 < n → All (λ k. k < n) now → getD now 0 0 < n
 begun-small n [] h p = h
@@ -71,22 +75,14 @@ length-parser passed = refl
 length-parser string = refl
 length-parser string-end = refl
 
-few-parameters : (r : Reading) → Reading-fits r → length (parameters-in r) ≤ 16
-few-parameters ground f = omega arith
-few-parameters escape f = omega arith
-few-parameters (sequence private ps now) f = f .0
-few-parameters passed f = omega arith
-few-parameters string f = omega arith
-few-parameters string-end f = omega arith
+length-padded : (ns : List ℕ) → length (padded ns) ≡ 32
+length-padded ns = simp (length-append, length-take, length-replicate) (omega arith)
 
-length-padded : (ns : List ℕ) → length ns ≤ 32 → length (padded ns) ≡ 32
-length-padded ns h = simp (length-append, length-replicate) (omega arith)
-
-length-numbers : (t : Term) (r : Reading) → Reading-fits r → length (numbers t r) ≡ 64
-unfolding numbers
-length-numbers t r f =
-    let n : length (parameters-in r) ≤ 32 = omega (arith, few-parameters r f) in
-    let e : length (parser-numbers r ++ padded (parameters-in r)) ≡ 48 = length-append (parser-numbers r) _ ∙ omega (arith, length-parser r, length-padded (parameters-in r) n) in
+pub header-long : Header-long
+unfolding header-of
+header-long t =
+    let r = t .reading in
+    let e : length (parser-numbers r ++ padded (parameters-in r)) ≡ 48 = length-append (parser-numbers r) _ ∙ omega (arith, length-parser r, length-padded (parameters-in r)) in
     length-append (screen-numbers t) _ ∙ omega (arith, e)
 
 -- every number is below 2^64
@@ -195,7 +191,7 @@ header-accepted t f =
     let size = and-from _ _ (lt-ltb 0 (t .wide) (f .some-wide)) (and-from _ _ (le-leb (t .wide) 200 (f .narrow)) (and-from _ _ (lt-ltb 0 (t .high) (f .some-high)) (le-leb (t .high) 60 (f .low)))) in
     let cursor = and-from _ _ (lt-ltb (t .row) (t .high) (f .on-row)) (lt-ltb (t .col) (t .wide) (f .on-col)) in
     let region = and-from _ _ (le-leb (t .top) (t .bottom) (f .ordered)) (lt-ltb (t .bottom) (t .high) (f .inside)) in
-    fits (header-of t) (length-numbers t r (f .reads)) size cursor region (reading-accepted t r (f .reads))
+    fits (header-of t) (header-long t) size cursor region (reading-accepted t r (f .reads))
 
 header-words : (t : Term) → In-range t → All Word (header-of t)
 unfolding header-of
@@ -204,5 +200,9 @@ header-words t f =
     all-append Word (screen-numbers t) _ (screen-words t f)
     (all-append Word (parser-numbers r) _ (parser-words r (f .reads)) (all-padded Word (omega arith) (parameters-in r) (parameters-words r (f .reads))))
 
+header-small : (t : Term) → In-range t → all-small (header-of t) ≡ true
+unfolding all-small
+header-small t f = decides-every (λ n. ltb n (2 ^ 64)) Word (λ n. decides-ltb n (2 ^ 64)) (header-of t) .1 (header-words t f)
+
 pub loads-back : Loads-back
-loads-back t f = (header-accepted t f, λ rs a. term-back t rs a f, header-words t f)
+loads-back t f = (header-accepted t f, λ rs a. term-back t rs a f, header-small t f)

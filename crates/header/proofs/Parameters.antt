@@ -1,5 +1,5 @@
 -- Sixteen parameters, loaded one by one and stored with zeros behind them.
-use mathlib.Core.Path.{_≡_, refl, sym, ap, _∙_}
+use mathlib.Core.Path.{_≡_, sym, ap, _∙_}
 use mathlib.Core.Bool.{true, false, _&&_}
 use mathlib.Core.List.{List, [], _∷_, _++_}
 use Prim.Native.Nat.{ℕ, suc, _+_, _-_, _≤_, _<_}
@@ -36,5 +36,7 @@ loaded-more xs ns k h p e = rw (take-more-set xs k (getD ns k 0) h, take-more ns
 pub loaded-all : (xs ns : List ℕ) (k : ℕ) → length xs ≤ k → length ns ≤ k → take k xs ≡ take k ns → xs ≡ ns
 loaded-all xs ns k h p e = sym (take-all k xs h) ∙ (e ∙ take-all k ns p)
 
-pub padded-all : (ns : List ℕ) (k n : ℕ) → k ≡ n → n ≤ length ns → take k ns ++ replicate (32 - k) 0 ≡ padded (take n ns)
-padded-all ns k n e h = rw (e, length-take-le n ns h)
+pub padded-all : (ns : List ℕ) (k n : ℕ) → k ≡ n → n ≤ length ns → n ≤ 32 → take k ns ++ replicate (32 - k) 0 ≡ padded (take n ns)
+padded-all ns k n e h p =
+    let l : length (take n ns) ≡ n = length-take-le n ns h in
+    rw (e, take-all 32 (take n ns) (omega arith), l)

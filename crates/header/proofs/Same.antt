@@ -1,10 +1,10 @@
 -- A terminal is the one of a header if each of its fields is.
-use mathlib.Core.Path.{_≡_, refl}
+use mathlib.Core.Path.{_≡_}
 use mathlib.Core.Bool.{Bool}
 use mathlib.Core.List.{List}
 use Prim.Native.Nat.{ℕ}
 use lib.ListN.{getD}
-use Rattle.meaning.specs.Screen.{Style, Cell, Saved, Reading, Term}
+use Rattle.meaning.specs.Screen.{Style, Cell, Saved, Reading}
 use Rattle.header.specs.Header.{yes, style-from, saved-from, reading-from, term-from}
 
 pub same-term :

@@ -16,7 +16,7 @@
 --
 -- What is not listed is stored as 0, and so is what the parser's state has no use for. Yes is 1, and any other number is read as no.
 use mathlib.Core.Path.{_≡_}
-use mathlib.Core.Bool.{Bool, true, false, _&&_}
+use mathlib.Core.Bool.{Bool, true, _&&_}
 use mathlib.Core.List.{List, [], _∷_, _++_}
 use Prim.Native.Nat.{ℕ, _-_, _^_, _≤_, _<_}
 use lib.Dec.{eqb, ltb, leb}
@@ -25,7 +25,8 @@ use Rattle.std.specs.shelf.Lists.{All}
 use Rattle.meaning.specs.Words.{pick, every}
 use Rattle.meaning.specs.Screen.{Style, Cell, Term, Saved, Reading, ground, escape, sequence, passed, string, string-end, with-rows, with-answer, fresh, fitted}
 use Rattle.meaning.specs.Bytes.{written}
-use Rattle.meaning.specs.Laws.{good, fine-screen}
+use Rattle.meaning.specs.Laws.{good}
+use Rattle.meaning.specs.Promise.{all-small}
 use Rattle.grid.specs.Cells.{packed, unpacked}
 
 abbrev pub yes : ℕ → Bool
@@ -128,8 +129,9 @@ parameters-in passed = []
 parameters-in string = []
 parameters-in string-end = []
 
+-- 32 numbers, whatever the list
 abbrev pub padded : List ℕ → List ℕ
-padded ns = ns ++ replicate (32 - length ns) 0
+padded ns = take 32 ns ++ replicate (32 - length ns) 0
 
 -- the header of a terminal
 unfoldable pub header-of : Term → List ℕ
@@ -162,16 +164,24 @@ pub record In-range (t : Term) : Type 0 where
   pub saves : Style-fits (t .saved .style)
   pub reads : Reading-fits (t .reading)
 
+-- A header is 64 numbers long, whatever the terminal.
+abbrev pub Header-long : Type 0
+Header-long = (t : Term) → length (header-of t) ≡ 64
+
 -- What is stored is loaded again: such a terminal's header is accepted and stands for the same terminal, and its numbers are below 2^64.
 abbrev pub Loads-back : Type 0
 Loads-back =
     (t : Term) → In-range t →
     (header-fits (header-of t) ≡ true) × ((rs : List (List Cell)) (a : List ℕ) → term-from (header-of t) rs a ≡ with-answer (with-rows t rs) a)
-    × All (λ n. n < 2 ^ 64) (header-of t)
+    × (all-small (header-of t) ≡ true)
 
--- Whatever is written on a screen that is good and can be drawn, a header can still hold it; and so it can after another size, and as it comes up.
+-- What is loaded can be stored.
+abbrev pub Loaded-in-range : Type 0
+Loaded-in-range = (m : List ℕ) (rs : List (List Cell)) (a : List ℕ) → header-fits m ≡ true → all-small m ≡ true → In-range (term-from m rs a)
+
+-- Whatever is written on a good screen, a header can still hold it; and so it can after another size, and as it comes up.
 abbrev pub Stays-in-range : Type 0
-Stays-in-range = (t : Term) (cs : List ℕ) → good t ≡ true → fine-screen t ≡ true → In-range t → In-range (written t cs)
+Stays-in-range = (t : Term) (cs : List ℕ) → good t ≡ true → In-range t → In-range (written t cs)
 
 abbrev pub Fitted-in-range : Type 0
 Fitted-in-range = (t : Term) (w h : ℕ) → 0 < w → w ≤ 200 → 0 < h → h ≤ 60 → In-range t → In-range (fitted t w h)

@@ -1,8 +1,9 @@
--- What a sound screen holds beside its cells stays small: at most sixteen parameters and one that has begun, none above a number from 9,999 on,
--- and a saved cursor within bounds from the screen's on. Every byte leaves it so, and so do another size and a fresh screen.
+-- What a sound screen holds beside its cells stays small: styles in which nothing but what SGR sets is new, at most sixteen parameters and one that
+-- has begun, none above a number from 9,999 on, and a saved cursor within bounds from the screen's on.
+-- Every byte leaves it so, and so do another size and a fresh screen.
 use mathlib.Core.Bool.{Bool, _&&_, not}
 use mathlib.Core.List.{List, [], _∷_, _++_}
-use Prim.Native.Nat.{ℕ, suc, _+_, _-_, _≤_, _<_}
+use Prim.Native.Nat.{ℕ, suc, _-_, _≤_, _<_}
 use lib.Dec.{eqb, ltb, leb}
 use lib.ListN.{length, take, getD, length-take}
 use native.Mathlib.Omega.{arith}
@@ -10,8 +11,8 @@ use Rattle.std.specs.shelf.Lists.{All}
 use Rattle.std.proofs.shelf.Elements.{all-take, all-push}
 use Rattle.std.proofs.shelf.Tests.{and-parts, leb-true, cond-both}
 use Rattle.meaning.specs.Words.{pick, or, none-of}
-use Rattle.meaning.specs.Screen.{Term, Saved, Reading, ground, escape, sequence, passed, string, string-end, fresh, at, with-reading, with-answer, with-modes, with-region, row-on, row-back, put-sign, printed, goes-to, wipe-row, wipe-all, lines-in, lines-out, in-region, region, fitted}
-use Rattle.meaning.specs.Bytes.{modes, mode-one, answers, all-numbers, add-digit, ended, done-sequence, sequence-byte, byte-read, is-string, back-to-ground, low-byte, byte, written}
+use Rattle.meaning.specs.Screen.{Style, Term, Saved, Reading, ground, escape, sequence, passed, string, string-end, plain-style, styled-one, styled, fresh, at, with-style, with-reading, with-answer, with-modes, with-region, row-on, row-back, put-sign, printed, goes-to, wipe-row, wipe-all, lines-in, lines-out, in-region, region, fitted}
+use Rattle.meaning.specs.Bytes.{modes, mode-one, answers, all-numbers, add-digit, ended, sequence-byte, byte-read, is-string, back-to-ground, low-byte, byte, written}
 use Rattle.meaning.proofs.Controls.{Controls, pick-both, control-keeps, escape-keeps, sequence-keeps}
 use Rattle.meaning.proofs.Sound.{Sound, sound-controls, sound-report, sound-byte}
 
@@ -27,14 +28,16 @@ Short most string = Unit {0}
 Short most string-end = Unit {0}
 
 -- over the fields, so that what touches none of them keeps it by computing
-pub record Held-fields (most rows cols : ℕ) (saved : Saved) (reading : Reading) : Type 0 where
+pub record Held-fields (S : Style → Type 0) (most rows cols : ℕ) (style : Style) (saved : Saved) (reading : Reading) : Type 0 where
+  pub writes : S style
+  pub saves : S (saved .style)
   pub saved-row : saved .row < rows
   pub saved-col : saved .col < cols
   pub short : Short most reading
 
--- no parameter is above `most`, and the saved cursor is within so many rows and columns
-abbrev pub Held : ℕ → ℕ → ℕ → Term → Type 0
-Held most rows cols t = Held-fields most rows cols (t .saved) (t .reading)
+-- S holds of the styles, no parameter is above `most`, and the saved cursor is within so many rows and columns
+abbrev pub Held : (Style → Type 0) → ℕ → ℕ → ℕ → Term → Type 0
+Held S most rows cols t = Held-fields S most rows cols (t .style) (t .saved) (t .reading)
 
 module _ (most : ℕ) (enough : 9999 ≤ most) where
   short-digit : (now : List ℕ) (d : ℕ) → d ≤ 9 → (length (add-digit now d) ≤ 1) × Short-numbers most (add-digit now d)
@@ -49,9 +52,10 @@ module _ (most : ℕ) (enough : 9999 ≤ most) where
   short-whole private ps now s =
       (simp length-take (omega arith), all-take (λ n. n ≤ most) 16 _ (all-push (λ n. n ≤ most) ps (ended now) (s .1) (short-ended now (s .3))), omega arith, tt)
 
-module _ (w h most rows cols : ℕ) (enough : 9999 ≤ most) (tall : h ≤ rows) (broad : w ≤ cols) where
+module _ (w h : ℕ) (S : Style → Type 0) (plain : S plain-style) (one : (s : Style) (n : ℕ) → S s → S (styled-one s n))
+    (most rows cols : ℕ) (enough : 9999 ≤ most) (tall : h ≤ rows) (broad : w ≤ cols) where
   abbrev H : Term → Type 0
-  H t = Held most rows cols t
+  H t = Held S most rows cols t
 
   abbrev Both : Term → Type 0
   Both t = Sound w h t × H t
@@ -101,8 +105,16 @@ module _ (w h most rows cols : ℕ) (enough : 9999 ≤ most) (tall : h ≤ rows)
       o : H (pick (t .late) (at (row-on t) (row-on t .row) 0) t)
       o = pick-both H (t .late) _ _ (held-row-on t p) p
 
-  pub held-fresh : 1 ≤ w → 1 ≤ h → (x y : ℕ) → Held most rows cols (fresh x y)
-  held-fresh p q x y = record { saved-row = omega arith; saved-col = omega arith; short = tt }
+  pub held-fresh : 1 ≤ w → 1 ≤ h → (x y : ℕ) → Held S most rows cols (fresh x y)
+  held-fresh p q x y = record { writes = plain; saves = plain; saved-row = omega arith; saved-col = omega arith; short = tt }
+
+  styled-keeps : (s : Style) (ns : List ℕ) → S s → S (styled s ns)
+  unfolding styled
+  styled-keeps s [] f = f
+  styled-keeps s (n ∷ ns) f = styled-keeps (styled-one s n) ns (one s n f)
+
+  held-style : (t : Term) (s : Style) → H t → S s → H (with-style t s)
+  held-style t s p f = record { writes = f; saves = p .saves; saved-row = p .saved-row; saved-col = p .saved-col; short = p .short }
 
   -- saving needs the cursor to be on the screen, so that both are kept together
   both-controls : Controls Both
@@ -131,10 +143,10 @@ module _ (w h most rows cols : ℕ) (enough : 9999 ≤ most) (tall : h ≤ rows)
         scroll-up = λ t n p. (k .scroll-up t n (p .0), p .1);
         scroll-down = λ t n p. (k .scroll-down t n (p .0), p .1);
         set-region = λ t a b p. (k .set-region t a b (p .0), held-region t a b (p .1));
-        restyle = λ t ns p. (k .restyle t ns (p .0), p .1);
+        restyle = λ t ns p. (k .restyle t ns (p .0), held-style t _ (p .1) (styled-keeps (t .style) ns (p .1 .writes)));
         set-modes = λ v private t ns p. (k .set-modes v private t ns (p .0), held-modes v private t ns (p .1));
-        saves = λ t p. (k .saves t (p .0), record { saved-row = omega arith; saved-col = omega arith; short = p .1 .short });
-        restores = λ t p. (k .restores t (p .0), p .1);
+        saves = λ t p. (k .saves t (p .0), record { writes = p .1 .writes; saves = p .1 .writes; saved-row = omega arith; saved-col = omega arith; short = p .1 .short });
+        restores = λ t p. (k .restores t (p .0), held-style t (t .saved .style) (p .1) (p .1 .saves));
         resets = λ t p. (k .resets t (p .0), held-fresh (omega arith) (omega arith) (t .wide) (t .high));
       }
 
@@ -143,7 +155,7 @@ module _ (w h most rows cols : ℕ) (enough : 9999 ≤ most) (tall : h ≤ rows)
 
   -- the parser's steps
   held-reading : (t : Term) (r : Reading) → H t → Short most r → H (with-reading t r)
-  held-reading t r p s = record { saved-row = p .saved-row; saved-col = p .saved-col; short = s }
+  held-reading t r p s = record { writes = p .writes; saves = p .saves; saved-row = p .saved-row; saved-col = p .saved-col; short = s }
 
   held-sequence-byte : (t : Term) (private : Bool) (ps now : List ℕ) (c : ℕ) → Both t → Short most (sequence private ps now) → H (sequence-byte t private ps now c)
   held-sequence-byte t private ps now c p s =
@@ -178,19 +190,19 @@ module _ (w h most rows cols : ℕ) (enough : 9999 ≤ most) (tall : h ≤ rows)
       (pick-both H (is-string (t .reading)) _ _ (pick-both H (eqb c 7) _ _ (reads ground tt) (reads string tt))
       (pick-both H (or (eqb c 24) (eqb c 26)) _ _ (reads ground tt) (control-keeps Both both-controls t c p .1)))
 
-  pub held-byte : (t : Term) (c : ℕ) → Sound w h t → Held most rows cols t → Held most rows cols (byte t c)
+  pub held-byte : (t : Term) (c : ℕ) → Sound w h t → Held S most rows cols t → Held S most rows cols (byte t c)
   unfolding byte
   held-byte t c s p =
       pick-both H (ltb c 32) _ _ (held-low-byte t c (s, p)) (pick-both H (eqb c 127) _ _ p (held-byte-read t (t .reading) c (s, p) (p .short)))
 
-  pub held-written : (t : Term) (cs : List ℕ) → Sound w h t → Held most rows cols t → Held most rows cols (written t cs)
+  pub held-written : (t : Term) (cs : List ℕ) → Sound w h t → Held S most rows cols t → Held S most rows cols (written t cs)
   unfolding written
   held-written t [] s p = p
   held-written t (c ∷ cs) s p = held-written (byte t c) cs (sound-byte w h t c s) (held-byte t c s p)
 
   -- another size saves nothing of the old one, and leaves the parser where it was
-  pub held-fitted : 1 ≤ w → 1 ≤ h → (t : Term) → Short most (t .reading) → Held most rows cols (fitted t w h)
-  held-fitted p q t s = record { saved-row = omega arith; saved-col = omega arith; short = s }
+  pub held-fitted : 1 ≤ w → 1 ≤ h → (t : Term) → S (t .style) → Short most (t .reading) → Held S most rows cols (fitted t w h)
+  held-fitted p q t f s = record { writes = f; saves = plain; saved-row = omega arith; saved-col = omega arith; short = s }
 
-pub held-answer : (most rows cols : ℕ) (t : Term) (a : List ℕ) → Held most rows cols t → Held most rows cols (with-answer t a)
-held-answer most rows cols t a p = p
+pub held-answer : (S : Style → Type 0) (most rows cols : ℕ) (t : Term) (a : List ℕ) → Held S most rows cols t → Held S most rows cols (with-answer t a)
+held-answer S most rows cols t a p = p

@@ -1,4 +1,4 @@
-use mathlib.Core.Path.{_≡_, ap, _∙_}
+use mathlib.Core.Path.{ap, _∙_}
 use mathlib.Core.List.{List}
 use Prim.Native.Nat.{ℕ}
 use lib.ListN.{set, getD}
@@ -13,4 +13,4 @@ loop-k-again c =
     ap (λ (xs : List ℕ). set xs k (getD ns k 0)) (c .loop-k .inv) ∙ padded-more ns k (omega arith) (omega arith)
 
 pub returns : need.returns
-returns c = c .loop-k .inv ∙ padded-all (c .args .ps .list) (c .loop-k .k) (c .args .ps .count) (omega arith) (omega arith)
+returns c = c .loop-k .inv ∙ padded-all (c .args .ps .list) (c .loop-k .k) (c .args .ps .count) (omega arith) (omega arith) (omega arith)

@@ -1,7 +1,6 @@
 use native.Mathlib.Omega.{arith}
 use mathlib.Core.Path.{_∙_}
 use borrow.Author.Needs.{needs}
-use Rattle.std.proofs.shelf.Tests.{eq-eqb}
 use Rattle.header.specs.Header.{header-of}
 use Rattle.header.proofs.Parts.{three-parts, same-parts}
 use Rattle.header.proofs.storing.store.Needs as need
