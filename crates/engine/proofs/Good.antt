@@ -28,7 +28,7 @@ use Rattle.engine.proofs.Back.{Sized}
 
 -- what the pane's terminal keeps beside its screen fits memory
 abbrev pub Reads : Term → Type 0
-Reads t = Held 9999 (2 ^ 64) (2 ^ 64) t
+Reads t = Held (λ s. Unit {0}) 9999 (2 ^ 64) (2 ^ 64) t
 
 pub short-fits : (r : Reading) → Short 9999 r → Reading-fits r
 short-fits ground s = tt
@@ -100,10 +100,10 @@ room-high : (w h : ℕ) → Proper-size w h → pane-high (room-of w h) ≡ h - 
 room-high w h p = let a = p .some-high in omega arith
 
 fitted-reads : (t : Term) (w h : ℕ) → Reads t → Reads (fitted t w h)
-fitted-reads t w h r = record { saved-row = omega arith; saved-col = omega arith; short = r .short }
+fitted-reads t w h r = record { writes = tt; saves = tt; saved-row = omega arith; saved-col = omega arith; short = r .short }
 
 fresh-reads : (w h : ℕ) → Reads (fresh w h)
-fresh-reads w h = record { saved-row = omega arith; saved-col = omega arith; short = tt }
+fresh-reads w h = record { writes = tt; saves = tt; saved-row = omega arith; saved-col = omega arith; short = tt }
 
 -- what is kept of the pane's terminal at another size
 record Fitted-ok (w h : ℕ) (t : Term) : Type 0 where
@@ -167,7 +167,7 @@ start-ok n k w h p l =
 from-ok : (n : ℕ) (u : One) (bs : List ℕ) → One-ok n u → One-ok n (with-term u (with-answer (written (u .term) bs) []))
 from-ok n u bs o =
     let p = o .pane in
-    let r = held-written (u .wide) (u .high - 1) 9999 (2 ^ 64) (2 ^ 64) (omega arith) (let h = p .high in omega arith) (let w = p .wide in omega arith) (u .term) bs (p .sound) (o .reads) in
+    let r = held-written (u .wide) (u .high - 1) (λ s. Unit {0}) tt (λ s k e. tt) 9999 (2 ^ 64) (2 ^ 64) (omega arith) (let h = p .high in omega arith) (let w = p .wide in omega arith) (u .term) bs (p .sound) (o .reads) in
     record {
       pane = record {
         some-wide = p .some-wide;
