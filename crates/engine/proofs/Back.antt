@@ -13,6 +13,7 @@ use Rattle.meaning.proofs.Edits.{decides-every}
 use Rattle.meaning.specs.Words.{pick, every}
 use Rattle.meaning.specs.Screen.{Cell, Term, with-rows, with-answer}
 use Rattle.meaning.specs.Panes.{Glass}
+use Rattle.meaning.specs.Promise.{all-small}
 use Rattle.grid.specs.Cells.{packed, unpacked, style-of, rows-of, cells-of}
 use Rattle.grid.specs.declared.cell.Rendition.{Rendition}
 use Rattle.grid.proofs.Codes.{unpacked-packed}
@@ -103,7 +104,8 @@ head-small g v s o i =
     (omega arith, (omega arith, (omega arith, (omega arith, (omega arith, (omega arith, (omega arith, (omega arith, (omega arith, (omega arith, (omega arith, (n, (omega arith, (omega arith, (omega arith, (omega arith, tt))))))))))))))))
 
 header-small : (t : Term) → In-range t → every (λ x. ltb x (2 ^ 64)) (header-of t) ≡ true
-header-small t r = decides-every (λ x. ltb x (2 ^ 64)) (λ x. x < 2 ^ 64) (λ x. decides-ltb x (2 ^ 64)) (header-of t) .1 (loads-back t r .2)
+unfolding all-small
+header-small t r = loads-back t r .2
 
 found-one : (m : List ℕ) (u : One) (v : View) → length m ≡ memory-size → Sized (one-glass u) → Kept u → Viewed (one-glass u) v
     → Found (encode m (state (one-glass u) v)) (head-of (one-glass u) v) (header-of (u .term)) (v .cells) (cells-of (u .term .rows))
