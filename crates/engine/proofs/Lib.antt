@@ -1,2 +1,11 @@
 pub mod Start
 pub mod Steady
+pub mod Runs
+pub mod Areas
+pub mod Maps
+pub mod Core
+pub mod Machine
+pub mod Pictures
+pub mod Back
+pub mod Good
+pub mod Whole

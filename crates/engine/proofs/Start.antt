@@ -5,7 +5,8 @@ use Prim.Native.Nat.{ℕ, zero, suc}
 use lib.Dec.{eqb}
 use lib.ListN.{length, length-replicate}
 use Rattle.meaning.specs.Words.{so-many, every}
-use Rattle.engine.specs.Own.{memory-size, own}
+use Rattle.engine.specs.Memory.{memory-size}
+use Rattle.engine.specs.Own.{own}
 
 pub memory-size-is : memory-size ≡ 238304
 unfolding memory-size

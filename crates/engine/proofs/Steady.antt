@@ -2,7 +2,8 @@
 use mathlib.Core.Path.{refl}
 use native.Mathlib.Omega.{arith}
 use Rattle.meaning.specs.Promise.{Steady}
-use Rattle.engine.specs.Own.{memory-size, own}
+use Rattle.engine.specs.Memory.{memory-size}
+use Rattle.engine.specs.Own.{own}
 use Rattle.engine.proofs.Start.{length-start, all-zero}
 
 pub steady : Steady own

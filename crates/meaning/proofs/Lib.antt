@@ -5,5 +5,8 @@ pub mod Large
 pub mod Controls
 pub mod Edits
 pub mod Sound
+pub mod Cellwise
 pub mod Drawable
+pub mod Small
 pub mod Reports
+pub mod Readings

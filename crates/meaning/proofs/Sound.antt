@@ -215,7 +215,7 @@ module _ (w h : ℕ) where
   sound-reset : (t : Term) → Sound w h t → Sound w h (fresh (t .wide) (t .high))
   sound-reset t s = rw (s .is-wide, s .is-high) (sound-fresh (omega arith) (omega arith))
 
-  sound-controls : Controls (Sound w h)
+  pub sound-controls : Controls (Sound w h)
   sound-controls = record {
     stay = λ t s. s;
     on = sound-row-on;
@@ -246,7 +246,7 @@ module _ (w h : ℕ) where
     resets = sound-reset;
   }
 
-  sound-report : (t : Term) (k : ℕ) → Sound w h t → Sound w h (answers t k)
+  pub sound-report : (t : Term) (k : ℕ) → Sound w h t → Sound w h (answers t k)
   sound-report t k s = pick-both (Sound w h) (eqb k 6) _ _ s (pick-both (Sound w h) (eqb k 5) _ _ s s)
 
   sound-steps : Steps (Sound w h)

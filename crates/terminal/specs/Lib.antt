@@ -1,3 +1,5 @@
 pub mod Terms
 pub mod Parsing
+pub mod Sgr
 pub mod Answer
+pub mod Sizes

@@ -8,6 +8,7 @@ mod modes;
 mod parameters;
 mod print;
 mod report;
+pub mod restyle;
 mod scroll;
 mod sgr;
 mod start;

@@ -4,11 +4,12 @@ ghost use mathlib.Core.Bool.{_&&_, true, false};
 ghost use mathlib.Core.List.{List};
 ghost use Prim.Native.Nat.{ℕ, _*_};
 ghost use lib.ListN.{length};
-ghost use Rattle.meaning.specs.Screen.{fresh, fitted, with-answer, blank-row};
+ghost use Rattle.meaning.specs.Screen.{fresh, with-answer, blank-row};
 ghost use Rattle.meaning.specs.Words.{so-many};
 ghost use Rattle.grid.specs.Cells.{rows-of};
 ghost use Rattle.grid.specs.Edits.{on-screen};
 ghost use Rattle.std.specs.Options.{Cases as BySome};
+ghost use Rattle.terminal.specs.Sizes.{Resized};
 ghost use Rattle.terminal.specs.Terms.{term-on};
 use crate::state::Cursor;
 use crate::state::Kept;
@@ -77,5 +78,41 @@ impl Terminal {
     {
         rows::erase_rows(cells, self.size, 0, self.size.high);
         *self = Terminal::at_first(self.size);
+    }
+
+    // Another size, from the old cells into new ones; false, with nothing changed, if either are not as many as their size asks for.
+    pub fn resize(&mut self, old: &[u64], size: Size, new: &mut [u64]) -> bool
+        ensures { λ r. ⌜ Resized (now (self .entry)) (now (old .entry)) (size .wide) (size .high) (now (new .entry)) r (now (self .exit)) (now (new .exit)) ⌝ }
+    {
+        let Cursor { row, col, .. } = self.cursor;
+        let skip = (row + 1).saturating_sub(size.high);
+        if !resize(old, self.size, new, size, skip) {
+            return false;
+        }
+        *self = Terminal {
+            size,
+            cursor: Cursor {
+                row: row - skip,
+                col: col.min(size.wide - 1),
+                pending: false,
+            },
+            rendition: self.rendition,
+            top: 0,
+            bottom: size.high - 1,
+            modes: Modes {
+                insert: self.modes.insert,
+                autowrap: self.modes.autowrap,
+                origin: false,
+                visible: self.modes.visible,
+            },
+            kept: Kept {
+                row: 0,
+                col: 0,
+                rendition: PLAIN,
+                origin: false,
+            },
+            parser: self.parser,
+        };
+        true
     }
 }

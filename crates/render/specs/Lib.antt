@@ -1,0 +1,4 @@
+pub mod Sequences
+pub mod Pens
+pub mod Draw
+pub mod Finish

@@ -1,0 +1,14 @@
+pub mod Views
+pub mod Tables
+pub mod Numbers
+pub mod Sequences
+pub mod Cells
+pub mod Sends
+pub mod Goes
+pub mod Counts
+pub mod Flat
+pub mod Keeps
+pub mod Closes
+pub mod Law
+pub mod Rows
+pub mod Drawn
