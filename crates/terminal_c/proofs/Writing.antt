@@ -1,6 +1,6 @@
 -- A terminal as it comes up, fed with bytes.
-use mathlib.Core.Path.{_≡_, refl, sym, ap, subst, _∙_}
-use mathlib.Core.Bool.{Bool, true, false, _&&_}
+use mathlib.Core.Path.{_≡_, sym, ap, subst, _∙_}
+use mathlib.Core.Bool.{Bool, true, _&&_}
 use mathlib.Core.List.{List, []}
 use Prim.Native.Nat.{ℕ}
 use native.Mathlib.Omega.{arith}
@@ -8,7 +8,6 @@ use lib.Dec.{leb, ltb}
 use lib.ListN.{length}
 use Rattle.meaning.specs.Screen.{Term, fresh}
 use Rattle.meaning.specs.Bytes.{written}
-use Rattle.grid.specs.Cells.{rows-of}
 use Rattle.grid.specs.Edits.{on-screen}
 use Rattle.grid.specs.declared.size.Size.{Size}
 use Rattle.terminal.specs.Terms.{term-on}

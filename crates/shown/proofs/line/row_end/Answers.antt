@@ -1,9 +1,8 @@
-use mathlib.Core.Path.{_≡_, sym, ap, _∙_}
+use mathlib.Core.Path.{sym, ap, _∙_}
 use native.Mathlib.Omega.{arith}
 use lib.ListN.{length}
 use Rattle.std.proofs.shelf.Lists.{take-all}
 use Rattle.meaning.specs.Screen.{Cell}
-use Rattle.shown.specs.Text.{row-text}
 use Rattle.shown.proofs.Rows.{end-less, end-here, end-none}
 use Rattle.shown.proofs.line.row_end.Needs as need
 
