@@ -1,10 +1,10 @@
 // Measures the proved terminal beside a plain one over the same bytes, in the same run, and prints a table.
 // The plain one is a hand-written loop over rows of cells; it knows what the measured bytes need: printing with pending wrap, CR, LF, BS, HT, CUP, SGR,
 // EL and ED. The screens of both are compared before anything is measured.
-use std::time::Instant;
-
 extern "C" {
     fn terminal_write(wide: usize, high: usize, cells: *mut u64, count: usize, bytes: *const u8, length: usize) -> bool;
+    // C's, in millionths of a second.
+    fn clock() -> i64;
 }
 
 #[derive(Clone, Copy, PartialEq)]
@@ -237,17 +237,24 @@ fn addressed(size: usize, wide: usize, high: usize) -> Vec<u8> {
     bytes
 }
 
-// The best of several runs, in millions of bytes a second.
-fn speed(f: fn(usize, usize, &[u8]) -> Vec<u64>, wide: usize, high: usize, bytes: &[u8]) -> f64 {
-    let mut best = f64::MAX;
-    for _ in 0..5 {
-        let start = Instant::now();
-        let cells = f(wide, high, bytes);
-        let took = start.elapsed().as_secs_f64();
-        assert_eq!(cells.len(), wide * high);
-        best = best.min(took);
+// Seconds of processor time for one run, which other work on the machine disturbs least.
+fn seconds(f: fn(usize, usize, &[u8]) -> Vec<u64>, wide: usize, high: usize, bytes: &[u8]) -> f64 {
+    let start = unsafe { clock() };
+    let cells = f(wide, high, bytes);
+    let took = unsafe { clock() } - start;
+    assert_eq!(cells.len(), wide * high);
+    took as f64 / 1e6
+}
+
+// The best of several runs of each, by turns, in millions of bytes a second.
+fn speeds(wide: usize, high: usize, bytes: &[u8]) -> (f64, f64) {
+    let (mut a, mut b) = (f64::MAX, f64::MAX);
+    for _ in 0..15 {
+        a = a.min(seconds(proved, wide, high, bytes));
+        b = b.min(seconds(plain, wide, high, bytes));
     }
-    bytes.len() as f64 / best / 1e6
+    let mega = bytes.len() as f64 / 1e6;
+    (mega / a, mega / b)
 }
 
 fn main() {
@@ -257,8 +264,7 @@ fn main() {
     for (wide, high) in [(80, 24), (200, 60)] {
         for (name, bytes) in [("lines of words", text(size)), ("one long line", wrapped(size)), ("cursor-addressed", addressed(size, wide, high))] {
             assert!(proved(wide, high, &bytes) == plain(wide, high, &bytes), "the screens differ");
-            let a = speed(proved, wide, high, &bytes);
-            let b = speed(plain, wide, high, &bytes);
+            let (a, b) = speeds(wide, high, &bytes);
             println!("| {name} | {wide} x {high} | {a:.0} | {b:.0} | {:.2} |", a / b);
         }
     }
