@@ -6,13 +6,15 @@ use Prim.Native.Nat.{ℕ, suc, _-_}
 use lib.Dec.{eqb, ltb, leb}
 use lib.ListN.{getD}
 use Rattle.meaning.specs.Words.{pick, or, none-of, smaller, put-at}
-use Rattle.meaning.specs.Screen.{Term, Reading, ground, escape, sequence, passed, string, string-end, at, with-answer, change-row, opened, with-region, with-modes, row-on, row-back, put-sign, step-right, printed, goes-to, wipe-row, wipe-all, in-region, region, lines-in, lines-out}
+use Rattle.meaning.specs.Screen.{Term, Reading, ground, escape, sequence, passed, string, string-end, at, with-answer, change-row, opened, with-region, with-modes, row-on, put-sign, step-right, printed, goes-to, wipe-row, wipe-all, in-region, region}
 use Rattle.meaning.specs.Bytes.{control, one-of, answers, mode-one, modes, done-sequence, done-escape, all-numbers, sequence-byte, byte-read, is-string, back-to-ground, low-byte, byte, written}
 use Rattle.shown.specs.Driven.{unheard}
 
+-- the same but for what has been answered
 pub record Alike (t u : Term) : Type 0 where
   pub same : unheard t ≡ unheard u
 
+-- where nothing is decided they are so by computing
 alike : {t u : Term} → unheard t ≡ unheard u → Alike t u
 alike e = record { same = e }
 
@@ -25,7 +27,6 @@ module _ (a : List ℕ) where
   abbrev other : Term → Term
   other t = with-answer t a
 
-  -- where nothing is decided the two are alike by computing
   plain : (t : Term) → Alike t (other t)
   plain t = alike refl
 

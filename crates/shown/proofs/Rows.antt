@@ -7,7 +7,7 @@ use lib.Dec.{eqb}
 use lib.ListN.{length, take, drop, getD}
 use native.Mathlib.Omega.{arith}
 use Rattle.std.proofs.shelf.Lists.{map-more, map-push, length-map, length-take, take-all, take-more, take-map, drop-map}
-use Rattle.std.proofs.shelf.Tests.{ne-eqb, eq-eqb}
+use Rattle.std.proofs.shelf.Tests.{ne-eqb}
 use Rattle.meaning.specs.Words.{pick, none-of, flat}
 use Rattle.meaning.specs.Screen.{Cell}
 use Rattle.grid.specs.Cells.{unpacked, rows-of}

@@ -1,6 +1,6 @@
 // Rows of cells and the cursor's place as text, added behind what a lent row holds.
 ghost use mathlib.Core.Path.{_≡_};
-ghost use mathlib.Core.List.{List, [], map};
+ghost use mathlib.Core.List.{List, map};
 ghost use Prim.Native.Nat.{ℕ, _+_, _*_, _≤_};
 ghost use lib.ListN.{length, take};
 ghost use Rattle.grid.specs.Cells.{unpacked, rows-of};

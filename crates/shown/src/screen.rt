@@ -1,9 +1,5 @@
 // A terminal's screen written out: each row on a line without the blanks at its end, and then where the cursor is.
-ghost use mathlib.Core.Path.{_≡_};
-ghost use mathlib.Core.List.{List, [], _++_};
-ghost use Prim.Native.Nat.{ℕ};
 ghost use Rattle.std.specs.Of.Vec.{vec-items};
-ghost use Rattle.terminal.specs.Terms.{term-on};
 ghost use Rattle.shown.specs.Told.{Told};
 use crate::line::write_all;
 use terminal::state::Terminal;

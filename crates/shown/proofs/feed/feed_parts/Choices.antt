@@ -1,5 +1,4 @@
-use Prim.Native.Nat.{_-_, _*_}
-use mathlib.Core.Path.{_≡_}
+use Prim.Native.Nat.{_-_}
 use lib.ListN.{length}
 use Rattle.shown.proofs.Driving.{Driving}
 use Rattle.shown.proofs.feed.feed_parts.Given as given

@@ -1,4 +1,3 @@
-use mathlib.Core.Path.{_≡_}
 use native.Mathlib.Omega.{arith}
 use Rattle.output.proofs.Adding.{then}
 use Rattle.shown.proofs.line.write_all.Needs as need

@@ -1,4 +1,4 @@
-use mathlib.Core.Path.{_≡_, refl}
+use mathlib.Core.Path.{refl}
 use borrow.Author.Needs.{needs}
 use Rattle.std.proofs.shelf.Parts.{overwrites}
 use Rattle.shown.proofs.line.write_text.Needs as need
