@@ -1,19 +1,22 @@
 -- What the code's machine stands for, with the cells in its memory, and what loading and storing it leave.
 use mathlib.Core.Path.{_≡_}
-use mathlib.Core.Bool.{Bool, true, false}
+use mathlib.Core.Bool.{Bool, true, false, _&&_, not}
 use mathlib.Core.List.{List, [], _∷_}
 use Prim.Native.Nat.{ℕ, _*_}
 use lib.Dec.{eqb}
-use lib.ListN.{length}
+use lib.ListN.{length, getD, drop}
 use Rattle.std.specs.declared.option.Option.{Option}
 use Rattle.std.specs.declared.option.Option.the-variants.{Some, None}
+use Rattle.meaning.specs.Words.{or}
 use Rattle.meaning.specs.Screen.{Term}
 use Rattle.meaning.specs.Panes.{Glass, Window, Pane, at-first}
 use Rattle.terminal.specs.Terms.{term-on}
 use Rattle.terminal.specs.declared.state.Terminal.{Terminal}
+use Rattle.header.specs.Header.{yes, header-fits}
+use Rattle.header.specs.Outcomes.{Loaded as Header-loads}
 use Rattle.engine.specs.Areas.{part}
 use Rattle.engine.specs.State.{View, State, state, fresh-view}
-use Rattle.engine.specs.Memory.{memory-size, screen-at, cells-at, memory-fits, windows-from, panes-from, decode, encode}
+use Rattle.engine.specs.Memory.{memory-size, header-at, screen-at, cells-at, head-fits, memory-fits, windows-from, panes-from, terminal-from, glass-from, view-from, decode, encode}
 use Rattle.machine.specs.declared.state.Held.{Held}
 use Rattle.machine.specs.declared.state.Machine.{Machine}
 use Rattle.machine.specs.declared.state.Loaded.{Loaded}
@@ -48,6 +51,27 @@ view-of x m = record { wide = x .size .wide; high = x .size .high; cells = part 
 
 unfoldable pub state-of : Machine → List ℕ → State
 state-of x m = state (glass-of x m) (view-of x m)
+
+-- do the head and the pane's header of a memory in use fit?
+abbrev pub used-fits : List ℕ → Bool
+used-fits m = head-fits (part m 0 16) && or (not (yes (getD (part m 0 16) 6 0))) (header-fits (part m header-at 64))
+
+-- what such a memory holds
+abbrev pub used : List ℕ → State
+used m = state (glass-from (part m 0 16) (terminal-from (part m header-at 64) (drop cells-at m))) (view-from (part m 0 16) (drop screen-at m))
+
+pub record Holds (m : List ℕ) (x : Machine) : Type 0 where
+  pub fits : used-fits m ≡ true
+  pub same : used m ≡ state-of x m
+
+-- a pane from the numbers for whether there is one, its own, and its header
+abbrev pub Pane-is : ℕ → ℕ → List ℕ → Option Held → Type 0
+Pane-is has i hd None = yes has ≡ false
+Pane-is has i hd (Some p) = (yes has ≡ true) × (p .id ≡ i) × Header-loads hd (p .terminal)
+
+abbrev pub Pane-loads : ℕ → ℕ → List ℕ → Option (Option Held) → Type 0
+Pane-loads has i hd None = (yes has ≡ true) × (header-fits hd ≡ false)
+Pane-loads has i hd (Some o) = Pane-is has i hd o
 
 -- what was found in a memory
 abbrev pub Loads : List ℕ → Loaded → Type 0
