@@ -1,0 +1,3 @@
+pub mod Stays
+pub mod Placing
+pub mod Finding
