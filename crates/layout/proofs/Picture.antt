@@ -1,6 +1,6 @@
 -- The picture of one window with one pane: the pane's rows brought to the room's size, above the status line.
 use mathlib.Core.Path.{_≡_, refl, sym, ap, subst, _∙_}
-use mathlib.Core.Bool.{Bool, true, false, _&&_}
+use mathlib.Core.Bool.{Bool, true}
 use mathlib.Core.List.{List, [], _∷_, _++_, map, append-assoc}
 use Prim.Native.Nat.{ℕ, zero, suc, _+_, _*_, _-_, _≤_, _<_}
 use native.Mathlib.Nat.{suc-mul, le-of-suc-le-suc, not-suc-le-zero}
@@ -8,9 +8,9 @@ use native.Mathlib.Omega.{arith}
 use borrow.Author.Needs.{needs}
 use borrow.Rule.Slice.PartMut.{putMid}
 use lib.ListN.{length, take, drop, replicate}
-use Rattle.std.proofs.shelf.Lists.{append-nil, map-append, take-map, length-map, length-take, length-drop, length-append, length-replicate, take-all, take-at, drop-at, drop-all, set-at, same-lists, places}
+use Rattle.std.proofs.shelf.Lists.{append-nil, map-append, take-map, length-map, length-take, length-drop, length-append, length-replicate, take-all, take-at, drop-all, set-at, same-lists, places}
 use Rattle.std.proofs.shelf.Tests.{eq-eqb, and-from}
-use Rattle.meaning.specs.Words.{each, so-many, put-at}
+use Rattle.meaning.specs.Words.{so-many, put-at}
 use Rattle.meaning.specs.Screen.{Cell, Term, blank-row, row-at, fitted-row}
 use Rattle.meaning.specs.Bytes.{digits}
 use Rattle.meaning.specs.Panes.{places as places-of, window-at, rect}
@@ -25,7 +25,7 @@ row-mid : (pre : Rows) (x : List Cell) (post : Rows) → row-at (pre ++ (x ∷ p
 row-mid [] x post = refl
 row-mid (y ∷ pre) x post = row-mid pre x post
 
--- rows put over as many equal ones b, or fewer than these
+-- rows put over the first of n rows that are all b
 put-rows-over : (b : List Cell) (n : ℕ) (cs pre post : Rows) → length cs ≤ n
     → put-rows 0 (length pre) cs (pre ++ (so-many n b ++ post)) ≡ pre ++ (map (λ c. put-row 0 c b) cs ++ (so-many (n - length cs) b ++ post))
 unfolding put-rows
@@ -80,8 +80,8 @@ unfolding window-signs digits
 last-row-one w h i n t p = refl
 
 -- the pane's rows put on a blank screen
-panes-rows : (w h : ℕ) (rs : Rows) → put-rows 0 0 (map (take w) (take h rs)) (so-many (suc h) (blank-row w)) ≡ rows-fitted w h 0 rs ++ (blank-row w ∷ [])
-panes-rows w h rs =
+rows-put : (w h : ℕ) (rs : Rows) → put-rows 0 0 (map (take w) (take h rs)) (so-many (suc h) (blank-row w)) ≡ rows-fitted w h 0 rs ++ (blank-row w ∷ [])
+rows-put w h rs =
     let cs : Rows = map (take w) (take h rs) in
     let l : length cs ≤ h = simp (length-map, length-take) (omega arith) in
     ap (put-rows 0 0 cs) (blanks-above (blank-row w) h)
@@ -94,7 +94,7 @@ picture-is w h i n t p =
     let k : suc h - 1 ≡ h = omega arith in
     picture-parts w (suc h) i n t p
     ∙ (ap (λ (z : ℕ). put-at (put-rows 0 0 (map (take w) (take z (t .rows))) (so-many (suc h) (blank-row w))) z (last-row (one-pane w (suc h) i t n p))) k
-    ∙ (ap (λ (z : Rows). put-at z h (last-row (one-pane w (suc h) i t n p))) (panes-rows w h (t .rows))
+    ∙ (ap (λ (z : Rows). put-at z h (last-row (one-pane w (suc h) i t n p))) (rows-put w h (t .rows))
     ∙ (ap (put-at (rows-fitted w h 0 (t .rows) ++ (blank-row w ∷ [])) h) (last-row-one w (suc h) i n t p)
     ∙ set-at (rows-fitted w h 0 (t .rows)) (blank-row w) [] (status-row w) h (length-fitted w h (t .rows)))))
 
@@ -108,7 +108,7 @@ rows-one-more w h ys st ly ls =
     ∙ (pieces-append w h 1 (map unpacked ys) (map unpacked st) lm ∙ ap (λ (z : List Cell). pieces w h (map unpacked ys) ++ (z ∷ [])) lt)
 
 -- ys are the room's cells, put over the first n, and st the last row, put behind them
-pub drawn-parts : (w h n m : ℕ) (xs ys st : List ℕ) → 0 < h → length xs ≡ h * w → n ≡ (h - 1) * w → m ≡ w
+drawn-parts : (w h n m : ℕ) (xs ys st : List ℕ) → 0 < h → length xs ≡ h * w → n ≡ (h - 1) * w → m ≡ w
     → length ys ≡ length (take n xs) → length st ≡ length (take m (drop ((h - 1) * w) (ys ++ drop n xs)))
     → (putMid ((h - 1) * w) m (ys ++ drop n xs) st ≡ ys ++ st) × (length ys ≡ (h - 1) * w) × (length st ≡ w) × (length (ys ++ st) ≡ h * w)
 drawn-parts w h n m xs ys st hp lx en em ky ks =
@@ -120,7 +120,8 @@ drawn-parts w h n m xs ys st hp lx en em ky ks =
     let d : drop m (drop ((h - 1) * w) (ys ++ drop n xs)) ≡ [] = drop-all m _ l in
     (rw (t, d, append-nil), ly, ls, simp length-append (omega arith))
 
-pub picture-drawn : (w h : ℕ) (ys st : List ℕ) (rs : Rows) → 0 < h → length ys ≡ (h - 1) * w → length st ≡ w
+-- what stands there then is the picture
+picture-drawn : (w h : ℕ) (ys st : List ℕ) (rs : Rows) → 0 < h → length ys ≡ (h - 1) * w → length st ≡ w
     → rows-of w (h - 1) ys ≡ rows-fitted w (h - 1) 0 rs → map unpacked st ≡ status-row (length st)
     → (i n : ℕ) (t : Term) (p : Bool) → t .rows ≡ rs → rows-of w h (ys ++ st) ≡ picture (one-pane w h i t n p)
 picture-drawn w zero ys st rs hp ly ls er es i n t p et = absurd (not-suc-le-zero hp)
@@ -134,7 +135,7 @@ picture-drawn w (suc h) ys st rs hp ly ls er es i n t p et =
     ∙ (ap (λ (z : Rows). z ++ (map unpacked st ∷ [])) er₁
     ∙ (ap (λ (z : List Cell). rows-fitted w h 0 (t .rows) ++ (z ∷ [])) (es ∙ ap status-row ls) ∙ sym (picture-is w h i n t p))))
 
--- no room
+-- a screen of one row has no room for a pane
 pub no-rows : (w h : ℕ) (xs : List ℕ) (rs : Rows) → h ≡ 0 → rows-of w h xs ≡ rows-fitted w h 0 rs
 unfolding rows-of pieces
 no-rows w h xs rs e = rw e

@@ -1,12 +1,11 @@
 -- What drawing the status line leaves.
-use mathlib.Core.Path.{_≡_, refl, sym, ap, _∙_}
+use mathlib.Core.Path.{_≡_, sym, ap, _∙_}
 use mathlib.Core.List.{List, [], _∷_, _++_, map}
-use Prim.Native.Nat.{ℕ, _+_, _-_, _≤_, min}
+use Prim.Native.Nat.{ℕ, _-_, min}
 use native.Mathlib.Omega.{arith}
 use borrow.Author.Needs.{needs}
 use lib.ListN.{length, take, drop, replicate}
 use Rattle.std.proofs.shelf.Lists.{map-append, take-map, drop-replicate, same-lists, places}
-use Rattle.meaning.specs.Screen.{Cell}
 use Rattle.meaning.specs.Picture.{turned}
 use Rattle.grid.specs.Cells.{unpacked}
 use Rattle.grid.proofs.Regions.{map-replicate}

@@ -25,6 +25,7 @@ pub struct Machine {
 }
 
 // What a memory holds: no state, that of a machine to which nothing has come yet, or another.
+#[derive(Clone, Copy)]
 pub enum Loaded {
     Not,
     First,

@@ -1,4 +1,4 @@
-use mathlib.Core.Path.{_≡_, _∙_}
+use mathlib.Core.Path.{_≡_}
 use Prim.Native.Nat.{min}
 use lib.ListN.{length}
 use native.Mathlib.Omega.{arith}
