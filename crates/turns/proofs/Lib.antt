@@ -1,0 +1,2 @@
+mod Lent
+mod Viewing

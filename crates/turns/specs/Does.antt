@@ -1,0 +1,12 @@
+-- A turn has been taken: the memory is the definition's, and the act is told.
+use mathlib.Core.Path.{_≡_}
+use mathlib.Core.List.{List}
+use Prim.Native.Nat.{ℕ}
+use Rattle.meaning.specs.Entry.{Act-told}
+use Rattle.meaning.specs.declared.answer.Told.{Told}
+use Rattle.engine.specs.State.{Out}
+use Rattle.engine.specs.Memory.{encode}
+
+pub record Does (o : Out) (m m₁ : List ℕ) (r : Told) (out out₁ : List ℕ) : Type 0 where
+  pub memory : m₁ ≡ encode m (o .state)
+  pub act : Act-told (o .act) r out out₁
