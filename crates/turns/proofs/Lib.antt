@@ -1,2 +1,4 @@
 mod Lent
 mod Viewing
+mod Going
+mod Drawing

@@ -1,2 +1,2 @@
 // What the machine does in one step, over its memory: each turn leaves the memory and tells the act that the definition has.
-mod show;
+pub mod show;

@@ -1,21 +1,28 @@
 // Going on: cells that differ are sent to the viewer's screen, then the cursor is put right.
 ghost use mathlib.Core.Path.{_≡_};
-ghost use mathlib.Core.Bool.{Bool};
+ghost use mathlib.Core.Bool.{Bool, true};
 ghost use mathlib.Core.List.{List, _++_};
 ghost use Prim.Native.Nat.{ℕ, _*_, _≤_};
 ghost use lib.ListN.{length, take, drop};
 ghost use Rattle.meaning.specs.Picture.{picture, spot};
 ghost use Rattle.grid.specs.Cells.{cells-of};
 ghost use Rattle.layout.specs.Window.{one-pane};
-ghost use Rattle.machine.specs.States.{terminal-in};
+ghost use Rattle.machine.specs.States.{glass-of, terminal-in, view-of};
+ghost use Rattle.std.specs.declared.option.Option.the-variants.{Some};
+ghost use Rattle.turns.specs.Does.{Does, closing-out};
 ghost use Rattle.render.specs.Draw.{drawn};
-ghost use Rattle.engine.specs.Areas.{part, over};
+ghost use Rattle.engine.specs.Areas.{part};
+ghost use Rattle.engine.specs.State.{going};
 ghost use Rattle.meaning.specs.Screen.{Cell};
 ghost use Rattle.terminal.specs.Terms.{term-of};
 ghost use Rattle.turns.specs.Sent.{Closed, Sent, closing-at};
 use grid::size::Size;
 use layout::cursor_of;
 use layout::draw_pane;
+use machine::state::Held;
+use machine::state::Machine;
+use machine::store;
+use meaning::Told;
 use render::draw::draw;
 use render::finish::finish;
 use render::pen::Pen;
@@ -59,4 +66,96 @@ fn send_cursor(size: Size, pane: &Terminal, pen: &mut Pen, out: &mut [u8]) -> us
 {
     let c = cursor_of(size, pane);
     finish(pen, size, c.row, c.col, c.visible, &mut out[0..4096])
+}
+
+// No cell differs: the cursor is put right, or there is nothing to do.
+fn close(memory: &mut [u64], x: Machine, p: Held, out: &mut [u8]) -> Told
+    requires memory { ⌜ length (now memory) ≡ 238304 ⌝ }
+    requires out { ⌜ 65536 ≤ length (now out) ⌝ }
+    requires pane { ⌜ x .pane ≡ Some p ⌝ }
+    requires looked { ⌜ x .attached ≡ true ⌝ }
+    ensures { λ r. ⌜ Does (closing-out (glass-of x (now (memory .entry))) (view-of x (now (memory .entry)))) (now (memory .entry)) (now (memory .exit)) r (now (out .entry)) (now (out .exit)) ⌝ }
+{
+    let Machine {
+        size,
+        attached,
+        prefix,
+        next,
+        pane,
+        mut pen,
+    } = x;
+    let k = send_cursor(size, &p.terminal, &mut pen, out);
+    if k > 0 {
+        store(
+            memory,
+            Machine {
+                size,
+                attached,
+                prefix,
+                next,
+                pane,
+                pen,
+            },
+        );
+        return Told::Write(k as u64);
+    }
+    store(memory, x);
+    Told::Wait
+}
+
+// Somebody looks at the pane: one go of drawing if cells differ, else the closing go.
+fn show(memory: &mut [u64], x: Machine, p: Held, out: &mut [u8]) -> Told
+    requires memory { ⌜ length (now memory) ≡ 238304 ⌝ }
+    requires out { ⌜ 65536 ≤ length (now out) ⌝ }
+    requires pane { ⌜ x .pane ≡ Some p ⌝ }
+    requires looked { ⌜ x .attached ≡ true ⌝ }
+    ensures { λ r. ⌜ Does (going (glass-of x (now (memory .entry))) (view-of x (now (memory .entry)))) (now (memory .entry)) (now (memory .exit)) r (now (out .entry)) (now (out .exit)) ⌝ }
+{
+    let mut row = [0u64; 12000];
+    draw_picture(memory, x.size, &p.terminal, &mut row);
+    let Machine {
+        size,
+        attached,
+        prefix,
+        next,
+        pane,
+        mut pen,
+    } = x;
+    let n = send_cells(memory, &row, size, &mut pen, out);
+    if n > 0 {
+        store(
+            memory,
+            Machine {
+                size,
+                attached,
+                prefix,
+                next,
+                pane,
+                pen,
+            },
+        );
+        return Told::Write(n as u64);
+    }
+    close(memory, x, p, out)
+}
+
+// Told to go on: nothing is done where nobody looks or there is no pane.
+pub fn go_on(memory: &mut [u64], x: Machine, out: &mut [u8]) -> Told
+    requires memory { ⌜ length (now memory) ≡ 238304 ⌝ }
+    requires out { ⌜ 65536 ≤ length (now out) ⌝ }
+    ensures { λ r. ⌜ Does (going (glass-of x (now (memory .entry))) (view-of x (now (memory .entry)))) (now (memory .entry)) (now (memory .exit)) r (now (out .entry)) (now (out .exit)) ⌝ }
+{
+    match x.pane {
+        Some(p) => {
+            if x.attached {
+                return show(memory, x, p, out);
+            }
+            store(memory, x);
+            Told::Wait
+        }
+        None => {
+            store(memory, x);
+            Told::Wait
+        }
+    }
 }
