@@ -9,7 +9,7 @@ ghost use Rattle.grid.specs.Cells.{cells-of};
 ghost use Rattle.layout.specs.Window.{one-pane};
 ghost use Rattle.machine.specs.States.{glass-of, terminal-in, view-of};
 ghost use Rattle.std.specs.declared.option.Option.the-variants.{Some};
-ghost use Rattle.turns.specs.Does.{Does, closing-out};
+ghost use Rattle.turns.specs.Does.{Does, Turns, closing-out};
 ghost use Rattle.render.specs.Draw.{drawn};
 ghost use Rattle.engine.specs.Areas.{part};
 ghost use Rattle.engine.specs.State.{going};
@@ -139,8 +139,8 @@ fn show(memory: &mut [u64], x: Machine, p: Held, out: &mut [u8]) -> Told
     close(memory, x, p, out)
 }
 
-// Told to go on: nothing is done where nobody looks or there is no pane.
-pub fn go_on(memory: &mut [u64], x: Machine, out: &mut [u8]) -> Told
+// Nothing is done where nobody looks or there is no pane.
+fn advance(memory: &mut [u64], x: Machine, out: &mut [u8]) -> Told
     requires memory { ⌜ length (now memory) ≡ 238304 ⌝ }
     requires out { ⌜ 65536 ≤ length (now out) ⌝ }
     ensures { λ r. ⌜ Does (going (glass-of x (now (memory .entry))) (view-of x (now (memory .entry)))) (now (memory .entry)) (now (memory .exit)) r (now (out .entry)) (now (out .exit)) ⌝ }
@@ -158,4 +158,17 @@ pub fn go_on(memory: &mut [u64], x: Machine, out: &mut [u8]) -> Told
             Told::Wait
         }
     }
+}
+
+// Told to go on. Memory or a row that isn't as large as it has to be is answered by No(0), and nothing changes.
+pub fn go_on(memory: &mut [u64], x: Machine, out: &mut [u8]) -> Told
+    ensures { λ r. ⌜ Turns (going (glass-of x (now (memory .entry))) (view-of x (now (memory .entry)))) (now (memory .entry)) (now (memory .exit)) r (now (out .entry)) (now (out .exit)) ⌝ }
+{
+    if memory.len() != 238304 {
+        return Told::No(0);
+    }
+    if out.len() < 65536 {
+        return Told::No(0);
+    }
+    advance(memory, x, out)
 }
