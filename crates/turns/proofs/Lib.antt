@@ -2,3 +2,4 @@ mod Lent
 mod Viewing
 mod Going
 mod Drawing
+mod Prefixes

@@ -1,2 +1,3 @@
 // What the machine does in one step, over its memory: each turn leaves the memory and tells the act that the definition has.
+pub mod keys;
 pub mod show;

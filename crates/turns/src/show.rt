@@ -140,7 +140,7 @@ fn show(memory: &mut [u64], x: Machine, p: Held, out: &mut [u8]) -> Told
 }
 
 // Nothing is done where nobody looks or there is no pane.
-fn advance(memory: &mut [u64], x: Machine, out: &mut [u8]) -> Told
+pub(crate) fn advance(memory: &mut [u64], x: Machine, out: &mut [u8]) -> Told
     requires memory { ⌜ length (now memory) ≡ 238304 ⌝ }
     requires out { ⌜ 65536 ≤ length (now out) ⌝ }
     ensures { λ r. ⌜ Does (going (glass-of x (now (memory .entry))) (view-of x (now (memory .entry)))) (now (memory .entry)) (now (memory .exit)) r (now (out .entry)) (now (out .exit)) ⌝ }
