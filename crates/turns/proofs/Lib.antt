@@ -3,3 +3,4 @@ mod Viewing
 mod Going
 mod Drawing
 mod Prefixes
+mod Gone
