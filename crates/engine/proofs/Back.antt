@@ -30,7 +30,7 @@ rendition_back : (r : Rendition) → r.marks < 2 ^ 16 → r.fore < 2 ^ 8 → ren
 rendition_back r a b =
     let c : Cell = record { sign = 0; style = style_of r } in
     let e = unpacked_packed c (omega arith) a b in
-    ap (λ (x : Cell). record { marks = x.style.marks; fore = x.style.fore; ground = x.style.ground }) e
+    ap (λ (x : Cell). record { marks = x.style.marks; fore = x.style.fore; back = x.style.back }) e
 
 -- the pen, from the head
 pen_back : (g : Glass) (v : View) → Viewed g v → pen_from (head_of g v) ≡ v.pen
@@ -91,7 +91,7 @@ head_small g v s o i =
     let p = o.pen in
     let bits : (b : Bool) → bit b < 2 = λ b. elim b as (λ (x : Bool). bit x < 2) [ true ↦ omega arith | false ↦ omega arith ] in
     let a = bits g.attached in let b = bits g.prefix in let c = bits (has_pane g.panes) in let d = bits v.pen.pending in let e = bits v.pen.visible in
-    let n : rendition_number v.pen.rendition < 2 ^ 64 = (let x = p.marks in let y = p.fore in let z = p.ground in omega arith) in
+    let n : rendition_number v.pen.rendition < 2 ^ 64 = (let x = p.marks in let y = p.fore in let z = p.back in omega arith) in
     let r = p.row in let q = p.col in let w = s.wide in let h = s.high in let k = s.next in
     (decides_every (λ x. ltb x (2 ^ 64)) (λ x. x < 2 ^ 64) (λ x. Decides-ltb x (2 ^ 64)) (head_of g v)).1
     (omega arith, (omega arith, (omega arith, (omega arith, (omega arith, (omega arith, (omega arith, (omega arith, (omega arith, (omega arith, (omega arith, (n, (omega arith, (omega arith, (omega arith, (omega arith, tt))))))))))))))))

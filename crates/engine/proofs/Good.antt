@@ -4,7 +4,7 @@ use lib.ListN.{length-replicate}
 use Rattle.std.proofs.lemmas.Bool.{and_parts, and_from, cases_Bool, cases_eq, eqb-true, ltb-true, leb-true, cond-true, cond-false}
 use Rattle.std.proofs.ByRecursion.{All-weaker}
 use Rattle.meaning.specs.Words.{pick, every, so_many, larger}
-use Rattle.meaning.specs.Screen.{Term, Reading, ground, escape, sequence, passed, string, string_end, fresh, fitted, with_answer}
+use Rattle.meaning.specs.Screen.{Term, Reading, ground_state, escape, sequence, passed, string, string_end, fresh, fitted, with_answer}
 use Rattle.meaning.specs.Bytes.{written}
 use Rattle.meaning.specs.Panes.{Glass, Event, key, from, gone, attach, turn, pane_wide, pane_high, as_large}
 use Rattle.meaning.specs.Promise.{detaching, proper_event}
@@ -25,7 +25,7 @@ abbrev pub Reads : Term → Type 0
 Reads t = Held (λ s. Unit {0}) 9999 (2 ^ 64) (2 ^ 64) t
 
 pub short_fits : (r : Reading) → Short 9999 r → ReadingFits r
-short_fits ground s = tt
+short_fits ground_state s = tt
 short_fits escape s = tt
 short_fits (sequence private ps now) s = (s.0, All-weaker _ _ (λ n h. omega arith) ps s.1, s.2, All-weaker _ _ (λ n h. omega arith) now s.3)
 short_fits passed s = tt
@@ -239,7 +239,7 @@ fresh_viewed g w h e f a b =
       is_high = sym f;
       long = rw (e, f) (length-replicate (h * w) blank_number);
       small = small_blanks (h * w);
-      pen = rw (e, f) (record { row = b; col = a; marks = omega arith; fore = omega arith; ground = omega arith });
+      pen = rw (e, f) (record { row = b; col = a; marks = omega arith; fore = omega arith; back = omega arith });
     }
 
 wide_of : Glass → ℕ

@@ -248,7 +248,7 @@ fine_small c e =
     let sign = leb-true _ _ d.1 in
     let marks = ltb-true _ _ f.0 in
     let fore = below_ten c.style.fore g.0 in
-    let ground = below_ten c.style.ground g.1 in
+    let back = below_ten c.style.back g.1 in
     lt-ltb _ _ (omega arith)
   where
     below_ten : (k : ℕ) → colour k ≡ true → k < 10

@@ -52,10 +52,10 @@ kept_one n u o =
         on_col = omega arith;
         ordered = s.ordered;
         inside = omega arith;
-        writes = (a.marks, a.fore, a.ground);
+        writes = (a.marks, a.fore, a.back);
         saved_row = o.reads.saved_row;
         saved_col = o.reads.saved_col;
-        saves = (b.marks, b.fore, b.ground);
+        saves = (b.marks, b.fore, b.back);
         reads = short_fits t.reading o.reads.short;
       };
       silent = o.silent;

@@ -12,11 +12,11 @@ packed_unpacked n = omega arith
 pub unpacked_packed : (c : Cell) → c.sign < 2 ^ 32 → c.style.marks < 2 ^ 16 → c.style.fore < 2 ^ 8 → unpacked (packed c) ≡ c
 unpacked_packed c a b d =
     let s : (unpacked (packed c)).sign ≡ c.sign = omega arith in
-    let p : packed c / 2 ^ 32 ≡ c.style.marks + 2 ^ 16 * (c.style.fore + 2 ^ 8 * c.style.ground) = omega arith in
-    let q : packed c / 2 ^ 48 ≡ c.style.fore + 2 ^ 8 * c.style.ground = omega arith in
+    let p : packed c / 2 ^ 32 ≡ c.style.marks + 2 ^ 16 * (c.style.fore + 2 ^ 8 * c.style.back) = omega arith in
+    let q : packed c / 2 ^ 48 ≡ c.style.fore + 2 ^ 8 * c.style.back = omega arith in
     let m : (unpacked (packed c)).style.marks ≡ c.style.marks = rw p (omega arith) in
     let f : (unpacked (packed c)).style.fore ≡ c.style.fore = rw q (omega arith) in
-    let g : (unpacked (packed c)).style.ground ≡ c.style.ground = omega arith in
+    let g : (unpacked (packed c)).style.back ≡ c.style.back = omega arith in
     rw (s, m, f, g)
 
 pub blank_is : unpacked blank_number ≡ blank

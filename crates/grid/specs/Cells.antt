@@ -6,10 +6,10 @@ use Rattle.grid.specs.declared.cell.Glyph.{Glyph}
 
 -- a cell as one number: 32 bits of sign, then 16 of marks, 8 of fore and 8 of ground
 abbrev pub packed : Cell → ℕ
-packed c = c.sign + 2 ^ 32 * c.style.marks + 2 ^ 48 * c.style.fore + 2 ^ 56 * c.style.ground
+packed c = c.sign + 2 ^ 32 * c.style.marks + 2 ^ 48 * c.style.fore + 2 ^ 56 * c.style.back
 
 abbrev pub unpacked : ℕ → Cell
-unpacked n = record { sign = n % 2 ^ 32; style = record { marks = n / 2 ^ 32 % 2 ^ 16; fore = n / 2 ^ 48 % 2 ^ 8; ground = n / 2 ^ 56 } }
+unpacked n = record { sign = n % 2 ^ 32; style = record { marks = n / 2 ^ 32 % 2 ^ 16; fore = n / 2 ^ 48 % 2 ^ 8; back = n / 2 ^ 56 } }
 
 -- can this cell be packed and unpacked without loss?
 abbrev pub cell_fits : Cell → Bool
@@ -21,7 +21,7 @@ blank_number = 651051621131747360
 
 -- what the code's values stand for
 abbrev pub style_of : Rendition → Style
-style_of r = record { marks = r.marks; fore = r.fore; ground = r.ground }
+style_of r = record { marks = r.marks; fore = r.fore; back = r.back }
 
 abbrev pub cell_of : Glyph → Cell
 cell_of g = record { sign = g.sign; style = style_of g.rendition }

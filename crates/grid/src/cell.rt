@@ -6,7 +6,7 @@ ghost use Rattle.grid.specs.Cells.{packed, unpacked, cell_of};
 pub struct Rendition {
     pub marks: u16,
     pub fore: u8,
-    pub ground: u8,
+    pub back: u8,
 }
 
 #[derive(Clone, Copy)]
@@ -23,7 +23,7 @@ pub fn pack(g: Glyph) -> u64
     ensures back { unpacked result ≡ cell_of g }
 {
     let style = g.rendition;
-    (((style.ground as u64) << 8 | style.fore as u64) << 16 | style.marks as u64) << 32
+    (((style.back as u64) << 8 | style.fore as u64) << 16 | style.marks as u64) << 32
         | g.sign as u64
 }
 
@@ -35,7 +35,7 @@ pub fn unpack(n: u64) -> Glyph
         rendition: Rendition {
             marks: (n >> 32 & 0xffff) as u16,
             fore: (n >> 48 & 0xff) as u8,
-            ground: (n >> 56) as u8,
+            back: (n >> 56) as u8,
         },
     }
 }

@@ -6,7 +6,7 @@ use Rattle.std.proofs.lemmas.List.{take-take, take_all, take_at}
 use Rattle.std.proofs.ByRecursion.{All-append, All-take, All-weaker}
 use Rattle.std.proofs.lemmas.Bool.{and_from, lt-ltb, le-leb}
 use Rattle.std.proofs.lemmas.Bool.Decides.{Decides-ltb}
-use Rattle.meaning.specs.Screen.{Style, Cell, Term, Reading, ground, escape, sequence, passed, string, string_end, with_rows, with_answer}
+use Rattle.meaning.specs.Screen.{Style, Cell, Term, Reading, ground_state, escape, sequence, passed, string, string_end, with_rows, with_answer}
 use Rattle.meaning.proofs.Edits.{decides_every, all_replicate}
 use Rattle.meaning.specs.Promise.{all_small}
 use Rattle.grid.proofs.Codes.{unpacked_packed}
@@ -37,7 +37,7 @@ numbers t r = numbers_of_screen t ++ (numbers_of_parser r ++ padded (parameters_
 
 reading_back : (t : Term) (r : Reading) → ReadingFits r → reading_from (numbers t r) ≡ r
 unfolding numbers
-reading_back t ground f = refl
+reading_back t ground_state f = refl
 reading_back t escape f = refl
 reading_back t (sequence private ps now) f = λ i. sequence (yes_bit private i) (padded_back ps f.0 i) (begun_back now f.2 i)
 reading_back t passed f = refl
@@ -53,7 +53,7 @@ begun_small n (k ∷ ns) h p = p.0
 
 reading_accepted : (t : Term) (r : Reading) → ReadingFits r → reading_fits (numbers t r) ≡ true
 unfolding numbers
-reading_accepted t ground f = refl
+reading_accepted t ground_state f = refl
 reading_accepted t escape f = refl
 reading_accepted t (sequence private ps now) f =
     let p = (decides_every (λ n. ltb n 65536) (λ n. n < 65536) (λ n. Decides-ltb n 65536) (take 16 (padded ps))).1 (All-take (λ n. n < 65536) 16 (padded ps) (all_padded (λ n. n < 65536) (omega arith) ps f.1)) in
@@ -63,7 +63,7 @@ reading_accepted t string f = refl
 reading_accepted t string_end f = refl
 
 length_parser : (r : Reading) → length (numbers_of_parser r) ≡ 16
-length_parser ground = refl
+length_parser ground_state = refl
 length_parser escape = refl
 length_parser (sequence private ps now) = refl
 length_parser passed = refl
@@ -96,7 +96,7 @@ state_words : (k : ℕ) → k < 6 → All Word (parser_state k)
 state_words k h = (omega arith, all_replicate Word 15 0 (omega arith))
 
 parser_words : (r : Reading) → ReadingFits r → All Word (numbers_of_parser r)
-parser_words ground f = state_words 0 (omega arith)
+parser_words ground_state f = state_words 0 (omega arith)
 parser_words escape f = state_words 1 (omega arith)
 parser_words (sequence private ps now) f =
     let few : Word (length ps) = omega (arith, f.0) in
@@ -108,7 +108,7 @@ parser_words string f = state_words 4 (omega arith)
 parser_words string_end f = state_words 5 (omega arith)
 
 parameters_words : (r : Reading) → ReadingFits r → All Word (parameters_in r)
-parameters_words ground f = tt
+parameters_words ground_state f = tt
 parameters_words escape f = tt
 parameters_words (sequence private ps now) f = All-weaker (λ n. n < 65536) Word (λ n h. omega arith) ps f.1
 parameters_words passed f = tt

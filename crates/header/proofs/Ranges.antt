@@ -4,7 +4,7 @@ use Rattle.std.specs.List.{AllByRecursion as All}
 use Rattle.std.proofs.ByRecursion.{All-weaker, All-take}
 use Rattle.std.proofs.lemmas.Bool.{and_parts, ltb-true, leb-true, cond_both}
 use Rattle.std.proofs.lemmas.Bool.Decides.{nat_tests, Decides-ltb}
-use Rattle.meaning.specs.Screen.{Style, Term, Reading, ground, escape, sequence, passed, string, string_end, marked, styled_one, fresh, fitted}
+use Rattle.meaning.specs.Screen.{Style, Term, Reading, ground_state, escape, sequence, passed, string, string_end, marked, styled_one, fresh, fitted}
 use Rattle.meaning.specs.Bytes.{written}
 use Rattle.meaning.specs.Promise.{all_small}
 use Rattle.meaning.proofs.Controls.{pick_both}
@@ -34,7 +34,7 @@ style_from_fits n h = (omega arith, omega arith, omega arith)
 
 -- readings
 fits_short : (r : Reading) → ReadingFits r → Short 65535 r
-fits_short ground f = tt
+fits_short ground_state f = tt
 fits_short escape f = tt
 fits_short (sequence private ps now) f =
     let below : (n : ℕ) → n < 65536 → n ≤ 65535 = λ n h. omega arith in
@@ -44,7 +44,7 @@ fits_short string f = tt
 fits_short string_end f = tt
 
 short_fits : (most : ℕ) (r : Reading) → most ≤ 65535 → Short most r → ReadingFits r
-short_fits most ground m f = tt
+short_fits most ground_state m f = tt
 short_fits most escape m f = tt
 short_fits most (sequence private ps now) m f =
     let below : (n : ℕ) → n ≤ most → n < 65536 = λ n h. omega arith in

@@ -18,7 +18,7 @@
 use Rattle.std.specs.Prelude.{◌≡◌, ℕ, ◌-◌, ◌^◌, ◌<◌, ◌≤◌, Bool, true, ◌&&◌, ltb, List, [], ◌∷◌, ◌++◌, length, take, drop, replicate, ◌==◌, nat_le, nat_lt, slice_index}
 use Rattle.std.specs.List.{AllByRecursion as All}
 use Rattle.meaning.specs.Words.{pick, every}
-use Rattle.meaning.specs.Screen.{Style, Cell, Term, Saved, Reading, ground, escape, sequence, passed, string, string_end, with_rows, with_answer, fresh, fitted}
+use Rattle.meaning.specs.Screen.{Style, Cell, Term, Saved, Reading, ground_state, escape, sequence, passed, string, string_end, with_rows, with_answer, fresh, fitted}
 use Rattle.meaning.specs.Bytes.{written}
 use Rattle.meaning.specs.Laws.{good}
 use Rattle.meaning.specs.Promise.{all_small}
@@ -65,7 +65,7 @@ begun_from k n = pick (yes k) (n ∷ []) []
 
 abbrev pub reading_from : List ℕ → Reading
 reading_from m =
-    pick (slice_index m 16 == 0) ground
+    pick (slice_index m 16 == 0) ground_state
     (pick (slice_index m 16 == 1) escape
     (pick (slice_index m 16 == 2) (sequence (yes (slice_index m 17)) (take (slice_index m 18) (parameters_at m)) (begun_from (slice_index m 19) (slice_index m 20)))
     (pick (slice_index m 16 == 3) passed (pick (slice_index m 16 == 4) string string_end))))
@@ -109,7 +109,7 @@ abbrev pub parser_state : ℕ → List ℕ
 parser_state k = k ∷ 0 ∷ 0 ∷ 0 ∷ 0 ∷ 0 ∷ 0 ∷ 0 ∷ 0 ∷ 0 ∷ 0 ∷ 0 ∷ 0 ∷ 0 ∷ 0 ∷ 0 ∷ []
 
 abbrev pub numbers_of_parser : Reading → List ℕ
-numbers_of_parser ground = parser_state 0
+numbers_of_parser ground_state = parser_state 0
 numbers_of_parser escape = parser_state 1
 numbers_of_parser (sequence private ps now) = 2 ∷ bit private ∷ length ps ∷ has_begun now ∷ slice_index now 0 ∷ 0 ∷ 0 ∷ 0 ∷ 0 ∷ 0 ∷ 0 ∷ 0 ∷ 0 ∷ 0 ∷ 0 ∷ 0 ∷ []
 numbers_of_parser passed = parser_state 3
@@ -117,7 +117,7 @@ numbers_of_parser string = parser_state 4
 numbers_of_parser string_end = parser_state 5
 
 abbrev pub parameters_in : Reading → List ℕ
-parameters_in ground = []
+parameters_in ground_state = []
 parameters_in escape = []
 parameters_in (sequence private ps now) = ps
 parameters_in passed = []
@@ -134,10 +134,10 @@ header_of t = numbers_of_screen t ++ (numbers_of_parser t.reading ++ padded (par
 
 -- WHAT A HEADER CAN HOLD
 abbrev pub StyleFits : Style → Type 0
-StyleFits s = (s.marks < 2 ^ 16) × (s.fore < 2 ^ 8) × (s.ground < 2 ^ 8)
+StyleFits s = (s.marks < 2 ^ 16) × (s.fore < 2 ^ 8) × (s.back < 2 ^ 8)
 
 abbrev pub ReadingFits : Reading → Type 0
-ReadingFits ground = Unit {0}
+ReadingFits ground_state = Unit {0}
 ReadingFits escape = Unit {0}
 ReadingFits (sequence private ps now) = (length ps ≤ 16) × All (λ n. n < 65536) ps × (length now ≤ 1) × All (λ n. n < 65536) now
 ReadingFits passed = Unit {0}

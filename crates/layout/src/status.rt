@@ -9,7 +9,7 @@ use grid::cell::{Glyph, Rendition, pack};
 const REVERSE: Rendition = Rendition {
     marks: 4,
     fore: 9,
-    ground: 9,
+    back: 9,
 };
 
 fn reversed(sign: u8) -> u64

@@ -2,7 +2,7 @@
 use Rattle.std.proofs.Common.{◌≡◌, ℕ, suc, ◌+◌, ◌-◌, ◌*◌, ◌/◌, ◌≤◌, Bool, true, false, not, ◌&&◌, eqb, ltb, leb, List, [], ◌∷◌, get_or, arith}
 use Rattle.std.proofs.lemmas.Bool.{cond_both, ltb-false, leb-false, eqb-true, eqb-false}
 use Rattle.meaning.specs.Words.{pick, or, smaller, none_of}
-use Rattle.meaning.specs.Screen.{Term, Reading, ground, escape, sequence, passed, string, string_end, fresh, at, with_reading, with_answer, with_style, row_on, row_back, change_row, opened, closed, wiped, printed, goes_to, goes_up, goes_down, wipe_row, wipe_all, lines_in, lines_out, up_by, down_by, region, styled, save, restore}
+use Rattle.meaning.specs.Screen.{Term, Reading, ground_state, escape, sequence, passed, string, string_end, fresh, at, with_reading, with_answer, with_style, row_on, row_back, change_row, opened, closed, wiped, printed, goes_to, goes_up, goes_down, wipe_row, wipe_all, lines_in, lines_out, up_by, down_by, region, styled, save, restore}
 use Rattle.meaning.specs.Bytes.{control, one_of, answers, modes, done_sequence, done_escape, all_numbers, byte_of_sequence, byte_read, is_string, back_to_ground, low_byte, byte, written}
 
 pub pick_both : {A : Type 0} (P : A → Type 0) (b : Bool) (x y : A) → P x → P y → P (pick b x y)
@@ -82,8 +82,8 @@ module _ (P : Term → Type 0) (k : Steps P) where
   unfolding low_byte
   low_byte_keeps t c p =
       pick_both P (eqb c 27) _ _ (k.reads t _ p)
-      (pick_both P (is_string t.reading) _ _ (pick_both P (eqb c 7) _ _ (k.reads t ground p) (k.reads t string p))
-      (pick_both P (or (eqb c 24) (eqb c 26)) _ _ (k.reads t ground p) (control_keeps P k.controls t c p)))
+      (pick_both P (is_string t.reading) _ _ (pick_both P (eqb c 7) _ _ (k.reads t ground_state p) (k.reads t string p))
+      (pick_both P (or (eqb c 24) (eqb c 26)) _ _ (k.reads t ground_state p) (control_keeps P k.controls t c p)))
 
   sequence_byte_keeps : (t : Term) (private : Bool) (ps now : List ℕ) (c : ℕ) → P t → P (byte_of_sequence t private ps now c)
   sequence_byte_keeps t private ps now c p =
@@ -91,16 +91,16 @@ module _ (P : Term → Type 0) (k : Steps P) where
       (pick_both P (eqb c 59) _ _ (k.reads t _ p)
       (pick_both P (eqb c 63) _ _ (pick_both P (none_of ps && (none_of now && not private)) _ _ (k.reads t _ p) (k.reads t _ p))
       (pick_both P (leb 64 c) _ _
-      (let g = k.reads t ground p in sequence_keeps P k.controls (back_to_ground t) private _ c (λ _. k.report (back_to_ground t) (get_or (all_numbers ps now) 0 0) g) g)
+      (let g = k.reads t ground_state p in sequence_keeps P k.controls (back_to_ground t) private _ c (λ _. k.report (back_to_ground t) (get_or (all_numbers ps now) 0 0) g) g)
       (k.reads t _ p))))
 
   byte_read_keeps : (t : Term) (r : Reading) (c : ℕ) → 32 ≤ c → (c ≡ 127 → ⊥) → P t → P (byte_read t r c)
-  byte_read_keeps t ground c a b p =
+  byte_read_keeps t ground_state c a b p =
       cond_both (leb 128 c) 63 c (λ x. P (printed t x)) (λ _. k.print t 63 (omega arith) (omega arith) p)
       (λ e. k.print t c a (let z = leb-false 128 c e in omega arith) p)
   byte_read_keeps t escape c a b p =
       pick_both P (eqb c 91) _ _ (k.reads t _ p) (pick_both P (eqb c 93) _ _ (k.reads t _ p)
-      (pick_both P (leb 32 c && leb c 47) _ _ (k.reads t _ p) (escape_keeps P k.controls (back_to_ground t) c (k.reads t ground p))))
+      (pick_both P (leb 32 c && leb c 47) _ _ (k.reads t _ p) (escape_keeps P k.controls (back_to_ground t) c (k.reads t ground_state p))))
   byte_read_keeps t (sequence private ps now) c a b p = pick_both P (leb 128 c) _ _ (k.reads t _ p) (sequence_byte_keeps t private ps now c p)
   byte_read_keeps t passed c a b p = pick_both P (leb 64 c && leb c 126) _ _ (k.reads t _ p) p
   byte_read_keeps t string c a b p = p

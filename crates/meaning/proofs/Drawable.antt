@@ -33,12 +33,12 @@ fine_marked s m f h = and_from (ltb m 8) _ (lt-ltb m 8 h) (and_parts (ltb s.mark
 marks_small : (s : Style) → fine_style s ≡ true → s.marks < 8
 marks_small s f = ltb-true s.marks 8 (and_parts (ltb s.marks 8) _ f).0
 
-fine_fore : (s : Style) (k : ℕ) → fine_style s ≡ true → colour k ≡ true → fine_style (record { marks = s.marks; fore = k; ground = s.ground }) ≡ true
+fine_fore : (s : Style) (k : ℕ) → fine_style s ≡ true → colour k ≡ true → fine_style (record { marks = s.marks; fore = k; back = s.back }) ≡ true
 fine_fore s k f h =
     let p = and_parts (ltb s.marks 8) _ f in
     and_from (ltb s.marks 8) _ p.0 (and_from (colour k) _ h (and_parts (colour s.fore) _ p.1).1)
 
-fine_ground : (s : Style) (k : ℕ) → fine_style s ≡ true → colour k ≡ true → fine_style (record { marks = s.marks; fore = s.fore; ground = k }) ≡ true
+fine_ground : (s : Style) (k : ℕ) → fine_style s ≡ true → colour k ≡ true → fine_style (record { marks = s.marks; fore = s.fore; back = k }) ≡ true
 fine_ground s k f h =
     let p = and_parts (ltb s.marks 8) _ f in
     and_from (ltb s.marks 8) _ p.0 (and_from (colour s.fore) _ (and_parts (colour s.fore) _ p.1).0 h)

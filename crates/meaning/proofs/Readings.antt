@@ -6,7 +6,7 @@ use Rattle.std.specs.List.{AllByRecursion as All}
 use Rattle.std.proofs.ByRecursion.{All-take, All-push}
 use Rattle.std.proofs.lemmas.Bool.{and_parts, leb-true, cond_both}
 use Rattle.meaning.specs.Words.{pick, or, none_of}
-use Rattle.meaning.specs.Screen.{Style, Term, Saved, Reading, ground, escape, sequence, passed, string, string_end, plain_style, styled_one, styled, fresh, at, with_style, with_reading, with_answer, with_modes, with_region, row_on, row_back, put_sign, printed, goes_to, wipe_row, wipe_all, lines_in, lines_out, in_region, region, fitted}
+use Rattle.meaning.specs.Screen.{Style, Term, Saved, Reading, ground_state, escape, sequence, passed, string, string_end, plain_style, styled_one, styled, fresh, at, with_style, with_reading, with_answer, with_modes, with_region, row_on, row_back, put_sign, printed, goes_to, wipe_row, wipe_all, lines_in, lines_out, in_region, region, fitted}
 use Rattle.meaning.specs.Bytes.{modes, mode_one, answers, all_numbers, add_digit, ended, byte_of_sequence, byte_read, is_string, back_to_ground, low_byte, byte, written}
 use Rattle.meaning.proofs.Controls.{Controls, pick_both, control_keeps, escape_keeps, sequence_keeps}
 use Rattle.meaning.proofs.Sound.{Sound, sound_controls, sound_report, sound_byte}
@@ -15,7 +15,7 @@ abbrev pub ShortNumbers : ℕ → List ℕ → Type 0
 ShortNumbers most ns = All (λ n. n ≤ most) ns
 
 abbrev pub Short : ℕ → Reading → Type 0
-Short most ground = Unit {0}
+Short most ground_state = Unit {0}
 Short most escape = Unit {0}
 Short most (sequence private ps now) = (length ps ≤ 16) × ShortNumbers most ps × (length now ≤ 1) × ShortNumbers most now
 Short most passed = Unit {0}
@@ -155,7 +155,7 @@ module _ (w h : ℕ) (S : Style → Type 0) (plain : S plain_style) (one : (s : 
   held_sequence_byte : (t : Term) (private : Bool) (ps now : List ℕ) (c : ℕ) → Both t → Short most (sequence private ps now) → H (byte_of_sequence t private ps now c)
   held_sequence_byte t private ps now c p s =
       let ignored : H (with_reading t passed) = held_reading t passed p.1 tt in
-      let g : Both (back_to_ground t) = (p.0, held_reading t ground p.1 tt) in
+      let g : Both (back_to_ground t) = (p.0, held_reading t ground_state p.1 tt) in
       cond_both (leb 48 c && leb c 57) _ _ H
       (λ e. let b = leb-true c 57 (and_parts (leb 48 c) (leb c 57) e).1 in
       let d = short_digit most enough now (c - 48) (omega arith) in held_reading t (sequence private ps (add_digit now (c - 48))) p.1 (s.0, s.1, d.0, d.1))
@@ -166,24 +166,24 @@ module _ (w h : ℕ) (S : Style → Type 0) (plain : S plain_style) (one : (s : 
       (sequence_keeps Both both_controls (back_to_ground t) private (all_numbers ps now) c (λ _. both_report (back_to_ground t) (get_or (all_numbers ps now) 0 0) g) g).1 ignored)))
 
   held_byte_read : (t : Term) (r : Reading) (c : ℕ) → Both t → Short most r → H (byte_read t r c)
-  held_byte_read t ground c p s = held_printed t _ p.1
+  held_byte_read t ground_state c p s = held_printed t _ p.1
   held_byte_read t escape c p s =
       pick_both H (eqb c 91) _ _ (held_reading t _ p.1 (omega arith, tt, omega arith, tt))
       (pick_both H (eqb c 93) _ _ (held_reading t string p.1 tt)
       (pick_both H (leb 32 c && leb c 47) _ _ (held_reading t passed p.1 tt)
-      (escape_keeps Both both_controls (back_to_ground t) c (p.0, held_reading t ground p.1 tt)).1))
+      (escape_keeps Both both_controls (back_to_ground t) c (p.0, held_reading t ground_state p.1 tt)).1))
   held_byte_read t (sequence private ps now) c p s = pick_both H (leb 128 c) _ _ (held_reading t passed p.1 tt) (held_sequence_byte t private ps now c p s)
-  held_byte_read t passed c p s = pick_both H (leb 64 c && leb c 126) _ _ (held_reading t ground p.1 tt) p.1
+  held_byte_read t passed c p s = pick_both H (leb 64 c && leb c 126) _ _ (held_reading t ground_state p.1 tt) p.1
   held_byte_read t string c p s = p.1
-  held_byte_read t string_end c p s = pick_both H (eqb c 92) _ _ (held_reading t ground p.1 tt) (held_reading t string p.1 tt)
+  held_byte_read t string_end c p s = pick_both H (eqb c 92) _ _ (held_reading t ground_state p.1 tt) (held_reading t string p.1 tt)
 
   held_low_byte : (t : Term) (c : ℕ) → Both t → H (low_byte t c)
   unfolding low_byte
   held_low_byte t c p =
       let reads : (r : Reading) → Short most r → H (with_reading t r) = λ r s. held_reading t r p.1 s in
       pick_both H (eqb c 27) _ _ (reads _ (pick_both (Short most) (is_string t.reading) string_end escape tt tt))
-      (pick_both H (is_string t.reading) _ _ (pick_both H (eqb c 7) _ _ (reads ground tt) (reads string tt))
-      (pick_both H (or (eqb c 24) (eqb c 26)) _ _ (reads ground tt) (control_keeps Both both_controls t c p).1))
+      (pick_both H (is_string t.reading) _ _ (pick_both H (eqb c 7) _ _ (reads ground_state tt) (reads string tt))
+      (pick_both H (or (eqb c 24) (eqb c 26)) _ _ (reads ground_state tt) (control_keeps Both both_controls t c p).1))
 
   pub held_byte : (t : Term) (c : ℕ) → Sound w h t → Held S most rows cols t → Held S most rows cols (byte t c)
   unfolding byte

@@ -5,7 +5,7 @@ use Rattle.std.proofs.ByRecursion.{All-append}
 use Rattle.std.proofs.lemmas.Bool.Decides.{Decides-ltb, Decides-below_and}
 use Rattle.std.proofs.lemmas.Bool.{and_parts, leb-true, cases_eq}
 use Rattle.meaning.specs.Words.{pick, or, every, none_of}
-use Rattle.meaning.specs.Screen.{Term, Reading, ground, escape, sequence, passed, string, string_end, at, with_reading, with_modes, with_region, row_on, put_sign, printed, goes_to, wipe_row, wipe_all, in_region}
+use Rattle.meaning.specs.Screen.{Term, Reading, ground_state, escape, sequence, passed, string, string_end, at, with_reading, with_modes, with_region, row_on, put_sign, printed, goes_to, wipe_row, wipe_all, in_region}
 use Rattle.meaning.specs.Bytes.{digits, in_digits, place_told, modes, mode_one, answers, all_numbers, done_sequence, byte_of_sequence, byte_read, is_string, back_to_ground, low_byte, byte, written}
 use Rattle.meaning.proofs.Controls.{Controls, pick_both, control_keeps, escape_keeps, sequence_keeps}
 use Rattle.meaning.proofs.Edits.{decides_every}
@@ -13,7 +13,7 @@ use Rattle.meaning.proofs.Sound.{Sound, sound_byte}
 
 -- how many bytes of a question have come
 abbrev pub asked : Reading → ℕ
-asked ground = 0
+asked ground_state = 0
 asked escape = 1
 asked (sequence private [] []) = 2
 asked (sequence private [] (n ∷ ns)) = 3
@@ -23,7 +23,7 @@ asked string = 0
 asked string_end = 0
 
 pub asked_most : (r : Reading) → asked r ≤ 3
-asked_most ground = omega arith
+asked_most ground_state = omega arith
 asked_most escape = omega arith
 asked_most (sequence private [] []) = omega arith
 asked_most (sequence private [] (n ∷ ns)) = omega arith
@@ -164,7 +164,7 @@ module _ (b n : ℕ) where
   reported_quiet : (a : List ℕ) (r : Reading) (u : Term) → ReportedFields b n a r → Quiet a (suc (asked r)) u → Reported b (suc n) u
   reported_quiet a r u s q = record { count = s.count; few = rw q.same s.few; paid = omega arith; small = rw q.same s.small }
 
-  reported_more : (a bs : List ℕ) (r : Reading) → asked r ≡ 3 → ReportedFields b n a r → length bs ≤ 9 → Small bs → ReportedFields b (suc n) (a ++ bs) ground
+  reported_more : (a bs : List ℕ) (r : Reading) → asked r ≡ 3 → ReportedFields b n a r → length bs ≤ 9 → Small bs → ReportedFields b (suc n) (a ++ bs) ground_state
   reported_more a bs r e s h p =
       record { count = suc s.count; few = rw length-append (omega arith); paid = omega arith; small = All-append (λ x. x < 256) a bs s.small p }
 
@@ -225,7 +225,7 @@ module _ (b n : ℕ) where
     quiet_read t r e = record { same = refl; most = rw e (omega arith) }
 
     reported_byte_read : (t : Term) (r : Reading) (c : ℕ) → t.reading ≡ r → Sound w h t → ReportedFields b n t.answer r → Reported b (suc n) (byte_read t r c)
-    reported_byte_read t ground c e o s = reported_quiet t.answer ground (byte_read t ground c) s (quiet_printed t.answer 1 t _ (quiet_read t ground e))
+    reported_byte_read t ground_state c e o s = reported_quiet t.answer ground_state (byte_read t ground_state c) s (quiet_printed t.answer 1 t _ (quiet_read t ground_state e))
     reported_byte_read t escape c e o s =
         let Q : Term → Type 0 = Quiet t.answer 2 in
         let reads : (r : Reading) → asked r ≤ 2 → Q (with_reading t r) = λ r h. record { same = refl; most = h } in

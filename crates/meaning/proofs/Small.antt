@@ -14,7 +14,7 @@ use Rattle.meaning.proofs.Drawable.{CellFine, FineRow, Fine}
 pub record StyleSmall (s : Style) : Type 0 where
   pub marks : s.marks < 2 ^ 16
   pub fore : s.fore < 2 ^ 8
-  pub ground : s.ground < 2 ^ 8
+  pub back : s.back < 2 ^ 8
 
 pub record CellSmall (c : Cell) : Type 0 where
   pub sign : c.sign < 2 ^ 32
@@ -31,13 +31,13 @@ Small t = SmallFields t.rows t.style t.saved.style
 
 -- what one number of SGR leaves
 small_marked : (s : Style) (m : ℕ) → StyleSmall s → m < 2 ^ 16 → StyleSmall (marked s m)
-small_marked s m p h = record { marks = h; fore = p.fore; ground = p.ground }
+small_marked s m p h = record { marks = h; fore = p.fore; back = p.back }
 
-small_fore : (s : Style) (k : ℕ) → StyleSmall s → k < 2 ^ 8 → StyleSmall (record { marks = s.marks; fore = k; ground = s.ground })
-small_fore s k p h = record { marks = p.marks; fore = h; ground = p.ground }
+small_fore : (s : Style) (k : ℕ) → StyleSmall s → k < 2 ^ 8 → StyleSmall (record { marks = s.marks; fore = k; back = s.back })
+small_fore s k p h = record { marks = p.marks; fore = h; back = p.back }
 
-small_ground : (s : Style) (k : ℕ) → StyleSmall s → k < 2 ^ 8 → StyleSmall (record { marks = s.marks; fore = s.fore; ground = k })
-small_ground s k p h = record { marks = p.marks; fore = p.fore; ground = h }
+small_ground : (s : Style) (k : ℕ) → StyleSmall s → k < 2 ^ 8 → StyleSmall (record { marks = s.marks; fore = s.fore; back = k })
+small_ground s k p h = record { marks = p.marks; fore = p.fore; back = h }
 
 -- the kth of eight colours, told by a number from a on
 small_told : (a n : ℕ) → (leb a n && leb n (a + 7)) ≡ true → n - a < 2 ^ 8
@@ -47,7 +47,7 @@ small_told a n e = let p = leb-true n (a + 7) (and_parts (leb a n) _ e).1 in ome
 small_styled_one : (s : Style) (n : ℕ) → StyleSmall s → StyleSmall (styled_one s n)
 small_styled_one s n p =
     let m = p.marks in
-    pick_both StyleSmall (eqb n 0) _ _ (record { marks = omega arith; fore = omega arith; ground = omega arith })
+    pick_both StyleSmall (eqb n 0) _ _ (record { marks = omega arith; fore = omega arith; back = omega arith })
     (pick_both StyleSmall (eqb n 1) _ _ (small_marked s _ p (grind (arith, nat_tests))) (pick_both StyleSmall (eqb n 4) _ _ (small_marked s _ p (grind (arith, nat_tests)))
     (pick_both StyleSmall (eqb n 7) _ _ (small_marked s _ p (grind (arith, nat_tests))) (pick_both StyleSmall (eqb n 22) _ _ (small_marked s _ p (grind (arith, nat_tests)))
     (pick_both StyleSmall (eqb n 24) _ _ (small_marked s _ p (grind (arith, nat_tests))) (pick_both StyleSmall (eqb n 27) _ _ (small_marked s _ p (grind (arith, nat_tests)))
@@ -56,8 +56,8 @@ small_styled_one s n p =
 
 small_rules : Rules CellSmall StyleSmall
 small_rules = record {
-  blanks = record { sign = omega arith; style = record { marks = omega arith; fore = omega arith; ground = omega arith } };
-  plain = record { marks = omega arith; fore = omega arith; ground = omega arith };
+  blanks = record { sign = omega arith; style = record { marks = omega arith; fore = omega arith; back = omega arith } };
+  plain = record { marks = omega arith; fore = omega arith; back = omega arith };
   restyles = small_styled_one;
   prints = λ c s _ q p. record { sign = omega arith; style = p };
 }
@@ -82,7 +82,7 @@ small_written = holds_written CellSmall StyleSmall small_rules
 
 -- what can be drawn is small
 pub fine_style_small : (s : Style) → fine_style s ≡ true → StyleSmall s
-fine_style_small s e = record { marks = grind (arith, nat_tests); fore = grind (arith, nat_tests); ground = grind (arith, nat_tests) }
+fine_style_small s e = record { marks = grind (arith, nat_tests); fore = grind (arith, nat_tests); back = grind (arith, nat_tests) }
 
 pub fine_cell_small : (c : Cell) → fine_cell c ≡ true → CellSmall c
 fine_cell_small c e = let p = and_parts (leb 32 c.sign && leb c.sign 126) _ e in record { sign = grind (arith, nat_tests); style = fine_style_small c.style p.1 }

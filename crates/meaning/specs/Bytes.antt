@@ -1,7 +1,7 @@
 -- What each byte does to a terminal: control characters, escape sequences, control sequences and control strings.
 use Rattle.std.specs.Prelude.{ℕ, zero, suc, ◌+◌, ◌-◌, ◌*◌, ◌/◌, ◌%◌, ◌<◌, ◌≤◌, Bool, true, false, not, ◌&&◌, List, [], ◌∷◌, ◌++◌, length, take, ◌==◌, nat_le, nat_lt, slice_index}
 use Rattle.meaning.specs.Words.{pick, or, smaller, larger, none_of}
-use Rattle.meaning.specs.Screen.{Term, Reading, ground, escape, sequence, passed, string, string_end, fresh, at, with_reading, with_answer, with_modes, with_style, row_on, row_back, change_row, opened, closed, wiped, printed, goes_to, goes_up, goes_down, wipe_row, wipe_all, lines_in, lines_out, up_by, down_by, region, styled, save, restore}
+use Rattle.meaning.specs.Screen.{Term, Reading, ground_state, escape, sequence, passed, string, string_end, fresh, at, with_reading, with_answer, with_modes, with_style, row_on, row_back, change_row, opened, closed, wiped, printed, goes_to, goes_up, goes_down, wipe_row, wipe_all, lines_in, lines_out, up_by, down_by, region, styled, save, restore}
 
 -- control characters: BS, HT to the next multiple of 8, CR; LF, VT and FF
 abbrev pub control : Term → ℕ → Term
@@ -82,7 +82,7 @@ abbrev pub all_numbers : List ℕ → List ℕ → List ℕ
 all_numbers ps now = pick (none_of ps && none_of now) [] (take 16 (ps ++ ended now ∷ []))
 
 abbrev pub back_to_ground : Term → Term
-back_to_ground t = with_reading t ground
+back_to_ground t = with_reading t ground_state
 
 -- a byte from 32 to 127 within a control sequence
 abbrev pub byte_of_sequence : Term → Bool → List ℕ → List ℕ → ℕ → Term
@@ -94,7 +94,7 @@ byte_of_sequence t private ps now c =
 
 -- a byte from 32 on, by the parser's state
 abbrev pub byte_read : Term → Reading → ℕ → Term
-byte_read t ground c = printed t (pick (nat_le 128 c) 63 c)
+byte_read t ground_state c = printed t (pick (nat_le 128 c) 63 c)
 byte_read t escape c =
     pick (c == 91) (with_reading t (sequence false [] [])) (pick (c == 93) (with_reading t string) (pick (nat_le 32 c && nat_le c 47) (with_reading t passed) (done_escape (back_to_ground t) c)))
 byte_read t (sequence private ps now) c = pick (nat_le 128 c) (with_reading t passed) (byte_of_sequence t private ps now c)
@@ -103,7 +103,7 @@ byte_read t string c = t
 byte_read t string_end c = pick (c == 92) (back_to_ground t) (with_reading t string)
 
 abbrev pub is_string : Reading → Bool
-is_string ground = false
+is_string ground_state = false
 is_string escape = false
 is_string (sequence private ps now) = false
 is_string passed = false

@@ -11,10 +11,10 @@ use Rattle.meaning.specs.declared.answer.Told.TheVariants.{Write, Send, Start, S
 
 -- a style as one number: marks times 100, the colour times 10, the ground
 abbrev pub as_style : ℕ → Style
-as_style n = record { marks = n / 100; fore = n / 10 % 10; ground = n % 10 }
+as_style n = record { marks = n / 100; fore = n / 10 % 10; back = n % 10 }
 
 abbrev pub as_number : Style → ℕ
-as_number s = 100 * s.marks + 10 * s.fore + s.ground
+as_number s = 100 * s.marks + 10 * s.fore + s.back
 
 abbrev pub a_colour : ℕ → Bool
 a_colour k = or (nat_lt k 8) (k == 9)

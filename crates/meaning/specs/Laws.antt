@@ -25,7 +25,7 @@ colour k = or (nat_lt k 8) (k == 9)
 
 -- every cell can be drawn: a printable character, marks below 8, colours 0 to 7 or the default
 unfoldable pub drawable : Term → Bool
-drawable t = every (λ r. every (λ c. (nat_le 32 c.sign && nat_le c.sign 126) && (nat_lt c.style.marks 8 && (colour c.style.fore && colour c.style.ground))) r) t.rows
+drawable t = every (λ r. every (λ c. (nat_le 32 c.sign && nat_le c.sign 126) && (nat_lt c.style.marks 8 && (colour c.style.fore && colour c.style.back))) r) t.rows
 
 -- Any such screen can be written on a fresh one of its size, within the bytes granted for the cells that differ.
 abbrev pub Drawn : Type 0
@@ -70,7 +70,7 @@ PictureLarge =
 
 -- a style that can be drawn: marks below 8, colours 0 to 7 or the default
 abbrev pub fine_style : Style → Bool
-fine_style s = nat_lt s.marks 8 && (colour s.fore && colour s.ground)
+fine_style s = nat_lt s.marks 8 && (colour s.fore && colour s.back)
 
 -- a cell that can be drawn: a printable character in such a style
 abbrev pub fine_cell : Cell → Bool

@@ -48,7 +48,7 @@ window_signs at k [] = []
 window_signs at k (v ∷ vs) = 32 ∷ in_digits k ++ pick (at == k) 42 32 ∷ window_signs at (suc k) vs
 
 abbrev pub turned : ℕ → Cell
-turned c = record { sign = c; style = record { marks = 4; fore = 9; ground = 9 } }
+turned c = record { sign = c; style = record { marks = 4; fore = 9; back = 9 } }
 
 abbrev pub last_row : Glass → List Cell
 last_row g = take g.wide (each turned (window_signs g.at 0 g.windows) ++ so_many g.wide (turned 32))

@@ -7,7 +7,7 @@ use Rattle.meaning.specs.Words.{pick, or, each, so_many, put_at, smaller, larger
 pub record Style : Type 0 where
   pub marks : ℕ
   pub fore : ℕ
-  pub ground : ℕ
+  pub back : ℕ
 
 -- a cell: the code of its character, and how it is drawn
 pub record Cell : Type 0 where
@@ -15,14 +15,14 @@ pub record Cell : Type 0 where
   pub style : Style
 
 abbrev pub plain_style : Style
-plain_style = record { marks = 0; fore = 9; ground = 9 }
+plain_style = record { marks = 0; fore = 9; back = 9 }
 
 -- an erased cell is plain, whatever style is in force
 abbrev pub blank : Cell
 blank = record { sign = 32; style = plain_style }
 
 abbrev pub same_style : Style → Style → Bool
-same_style a b = a.marks == b.marks && (a.fore == b.fore && a.ground == b.ground)
+same_style a b = a.marks == b.marks && (a.fore == b.fore && a.back == b.back)
 
 abbrev pub same_cell : Cell → Cell → Bool
 same_cell a b = a.sign == b.sign && same_style a.style b.style
@@ -30,7 +30,7 @@ same_cell a b = a.sign == b.sign && same_style a.style b.style
 -- the parser's state: nothing begun; after ESC; in a control sequence (CSI), with whether it is private (a ? came first), the parameters that are whole
 -- and the one that has begun, if any; in one that is ignored up to its final byte; in a control string (OSC); in one, after ESC
 pub data Reading : Type 0 where
-  ground : Reading
+  ground_state : Reading
   escape : Reading
   sequence : Bool → List ℕ → List ℕ → Reading
   passed : Reading
@@ -85,7 +85,7 @@ fresh w h = record {
   origin = false;
   shown = true;
   saved = at_start;
-  reading = ground;
+  reading = ground_state;
   answer = [];
 }
 
@@ -372,15 +372,15 @@ abbrev pub bit_off : ℕ → ℕ → ℕ
 bit_off b m = pick (m / b % 2 == 0) m (m - b)
 
 abbrev pub marked : Style → ℕ → Style
-marked s m = record { marks = m; fore = s.fore; ground = s.ground }
+marked s m = record { marks = m; fore = s.fore; back = s.back }
 
 -- one number of SGR
 abbrev pub styled_one : Style → ℕ → Style
 styled_one s n =
     pick (n == 0) plain_style (pick (n == 1) (marked s (bit_on 1 s.marks)) (pick (n == 4) (marked s (bit_on 2 s.marks)) (pick (n == 7) (marked s (bit_on 4 s.marks))
     (pick (n == 22) (marked s (bit_off 1 s.marks)) (pick (n == 24) (marked s (bit_off 2 s.marks)) (pick (n == 27) (marked s (bit_off 4 s.marks))
-    (pick (nat_le 30 n && nat_le n 37) (record { marks = s.marks; fore = n - 30; ground = s.ground }) (pick (n == 39) (record { marks = s.marks; fore = 9; ground = s.ground })
-    (pick (nat_le 40 n && nat_le n 47) (record { marks = s.marks; fore = s.fore; ground = n - 40 }) (pick (n == 49) (record { marks = s.marks; fore = s.fore; ground = 9 }) s))))))))))
+    (pick (nat_le 30 n && nat_le n 37) (record { marks = s.marks; fore = n - 30; back = s.back }) (pick (n == 39) (record { marks = s.marks; fore = 9; back = s.back })
+    (pick (nat_le 40 n && nat_le n 47) (record { marks = s.marks; fore = s.fore; back = n - 40 }) (pick (n == 49) (record { marks = s.marks; fore = s.fore; back = 9 }) s))))))))))
 
 -- all numbers of one SGR, in order
 unfoldable pub styled : Style → List ℕ → Style

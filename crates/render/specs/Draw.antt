@@ -12,7 +12,7 @@ move_bytes pen row col = pick (is_at pen row col) [] (cursor_position row col)
 
 -- a rendition only if it is another
 abbrev pub restyle_bytes : Rendition → Rendition → List ℕ
-restyle_bytes was r = pick (same_rendition was r) [] (graphic_rendition r.marks r.fore r.ground)
+restyle_bytes was r = pick (same_rendition was r) [] (graphic_rendition r.marks r.fore r.back)
 
 -- all that one cell costs; of a number that is no character's the lowest byte is sent
 unfoldable pub cell_bytes : Pen → ℕ → ℕ → ℕ → List ℕ

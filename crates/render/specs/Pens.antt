@@ -5,14 +5,14 @@ use Rattle.grid.specs.declared.cell.Rendition.{Rendition}
 use Rattle.render.specs.declared.pen.Pen.{Pen}
 
 abbrev pub fresh_pen : Pen
-fresh_pen = record { row = 0; col = 0; pending = false; rendition = record { marks = 0; fore = 9; ground = 9 }; visible = true }
+fresh_pen = record { row = 0; col = 0; pending = false; rendition = record { marks = 0; fore = 9; back = 9 }; visible = true }
 
 -- how the cell of this number is drawn
 abbrev pub rendition_of : ℕ → Rendition
-rendition_of p = record { marks = p / 2 ^ 32 % 2 ^ 16; fore = p / 2 ^ 48 % 2 ^ 8; ground = p / 2 ^ 56 }
+rendition_of p = record { marks = p / 2 ^ 32 % 2 ^ 16; fore = p / 2 ^ 48 % 2 ^ 8; back = p / 2 ^ 56 }
 
 abbrev pub same_rendition : Rendition → Rendition → Bool
-same_rendition a b = a.marks == b.marks && (a.fore == b.fore && a.ground == b.ground)
+same_rendition a b = a.marks == b.marks && (a.fore == b.fore && a.back == b.back)
 
 -- a character sent now goes to this place: with a wrap pending it would go to the next row
 abbrev pub is_at : Pen → ℕ → ℕ → Bool

@@ -18,7 +18,7 @@ pub(crate) fn rendition(p: u64) -> Rendition
 pub(crate) fn same(a: Rendition, b: Rendition) -> bool
     ensures { result ≡ same_rendition a b }
 {
-    a.marks == b.marks && a.fore == b.fore && a.ground == b.ground
+    a.marks == b.marks && a.fore == b.fore && a.back == b.back
 }
 
 // Would a character go to this place?

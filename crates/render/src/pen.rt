@@ -26,7 +26,7 @@ impl Pen {
             rendition: Rendition {
                 marks: 0,
                 fore: 9,
-                ground: 9,
+                back: 9,
             },
             visible: true,
         }

@@ -58,7 +58,7 @@ pub(crate) fn add_if(out: &mut [u8], n: usize, bit: u16, k: u8) -> usize
 // Select graphic rendition (SGR), from none.
 pub(crate) fn select(out: &mut [u8], n: usize, r: Rendition) -> usize
     requires { n + 18 ≤ length out.old }
-    ensures added { Added n out.old result out.new (graphic_rendition r.marks r.fore r.ground) }
+    ensures added { Added n out.old result out.new (graphic_rendition r.marks r.fore r.back) }
     ensures most { result ≤ n + 18 }
 {
     let a = introduce(out, n);
@@ -67,7 +67,7 @@ pub(crate) fn select(out: &mut [u8], n: usize, r: Rendition) -> usize
     let e = add_if(out, d, r.marks / 2 % 2, 4);
     let f = add_if(out, e, r.marks / 4 % 2, 7);
     let g = add_parameter(out, f, 30 + r.fore as usize);
-    let h = add_parameter(out, g, 40 + r.ground as usize);
+    let h = add_parameter(out, g, 40 + r.back as usize);
     push(out, h, 109)
 }
 

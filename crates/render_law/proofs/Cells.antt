@@ -43,7 +43,7 @@ written_restyle v was r s f = go (cases_Bool (same_rendition was r))
         let p = and_parts (eqb was.marks r.marks) _ y in
         let q = and_parts (eqb was.fore r.fore) _ p.1 in
         let e : style_of was ≡ style_of r =
-        (λ i. record { marks = eqb-true was.marks r.marks p.0 i; fore = eqb-true was.fore r.fore q.0 i; ground = eqb-true was.ground r.ground q.1 i }) in
+        (λ i. record { marks = eqb-true was.marks r.marks p.0 i; fore = eqb-true was.fore r.fore q.0 i; back = eqb-true was.back r.back q.1 i }) in
         rw y (ap (λ (x : Style). term_of (restyled v x)) (s ∙ e))
     go (inr n) = rw n (written_rendition v (style_of r) f)
 

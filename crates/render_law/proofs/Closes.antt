@@ -128,14 +128,14 @@ finished_closes w h row col visible room screen pen a b l f =
 
 -- the cursor stays on the screen
 fits_so : (w h : ℕ) (pen : Pen) (b : Bool) → Fits w h pen → Fits w h (set_visible pen b)
-fits_so w h pen b o = record { row = o.row; col = o.col; marks = o.marks; fore = o.fore; ground = o.ground }
+fits_so w h pen b o = record { row = o.row; col = o.col; marks = o.marks; fore = o.fore; back = o.back }
 
 finish_fits : (w h row col : ℕ) (visible : Bool) (pen : Pen) → can_be_at w h row col visible ≡ true → Fits w h pen → Fits w h (finish_pen pen row col visible)
 finish_fits w h row col false pen e o = fits_so w h pen false o
 finish_fits w h row col true pen e o =
     let p = and_parts (ltb row h) _ e in
     pick_both (Fits w h) (seen_at pen row col true) _ _ (fits_so w h pen true o)
-    (record { row = ltb-true row h p.0; col = ltb-true col w p.1; marks = o.marks; fore = o.fore; ground = o.ground })
+    (record { row = ltb-true row h p.0; col = ltb-true col w p.1; marks = o.marks; fore = o.fore; back = o.back })
 
 pub finished_fits : (w h row col : ℕ) (visible : Bool) (room : ℕ) (pen : Pen) → Fits w h pen → Fits w h (finished w h row col visible room pen).pen
 unfolding finished

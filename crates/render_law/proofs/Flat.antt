@@ -18,7 +18,7 @@ same_cell_sound a b e =
 
 same_cell_refl : (a : Cell) → same_cell a a ≡ true
 same_cell_refl a =
-    rw (eq-eqb a.sign a.sign refl, eq-eqb a.style.marks a.style.marks refl, eq-eqb a.style.fore a.style.fore refl) (eq-eqb a.style.ground a.style.ground refl)
+    rw (eq-eqb a.sign a.sign refl, eq-eqb a.style.marks a.style.marks refl, eq-eqb a.style.fore a.style.fore refl) (eq-eqb a.style.back a.style.back refl)
 
 -- a cell is its number
 same_cell_is : (x p : ℕ) → same_cell (unpacked x) (unpacked p) ≡ eqb x p

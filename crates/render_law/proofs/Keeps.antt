@@ -29,7 +29,7 @@ pen_fits : (w h i p : ℕ) (pen : Pen) → 0 < w → i < h * w → ltb p (2 ^ 64
 pen_fits w h i p pen z l e =
     let q = place_of w h i z l in
     let s = ltb-true p (2 ^ 64) e in
-    record { row = q.0; col = column_stays w (i % w) q.1; marks = omega arith; fore = omega arith; ground = omega arith }
+    record { row = q.0; col = column_stays w (i % w) q.1; marks = omega arith; fore = omega arith; back = omega arith }
 
 pub drawn_all_keeps : (w h room : ℕ) (pic screen : List ℕ) (pen : Pen) → Keeps w h pic screen pen (drawn w h pic room screen pen)
 drawn_all_keeps w h room pic screen pen = record {

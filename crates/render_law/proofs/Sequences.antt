@@ -111,7 +111,7 @@ rendition_is m f g = ap (λ (x : List ℕ). 27 ∷ 91 ∷ x) (rendition_cases (e
 -- then a table of all styles that can be drawn
 style_right : ℕ → ℕ → ℕ → Bool
 style_right m f g =
-    same_style (styled plain_style (numbers_of m f g)) (record { marks = m; fore = f; ground = g })
+    same_style (styled plain_style (numbers_of m f g)) (record { marks = m; fore = f; back = g })
     && (every (λ n. ltb n 256) (numbers_of m f g)
     && (leb (length (numbers_of m f g)) 5 && (leb (length (graphic_rendition m f g)) 16 && every (λ b. ltb b 256) (graphic_rendition m f g))))
 
@@ -141,39 +141,39 @@ pub same_style_sound : (a b : Style) → same_style a b ≡ true → a ≡ b
 same_style_sound a b e =
     let p = and_parts (eqb a.marks b.marks) _ e in
     let q = and_parts (eqb a.fore b.fore) _ p.1 in
-    λ i. record { marks = eqb-true a.marks b.marks p.0 i; fore = eqb-true a.fore b.fore q.0 i; ground = eqb-true a.ground b.ground q.1 i }
+    λ i. record { marks = eqb-true a.marks b.marks p.0 i; fore = eqb-true a.fore b.fore q.0 i; back = eqb-true a.back b.back q.1 i }
 
 -- what the table says of one style
 record Right (s : Style) : Type 0 where
-  is : styled plain_style (numbers_of s.marks s.fore s.ground) ≡ s
-  small : every (λ n. ltb n 256) (numbers_of s.marks s.fore s.ground) ≡ true
-  five : length (numbers_of s.marks s.fore s.ground) ≤ 5
-  short : length (graphic_rendition s.marks s.fore s.ground) ≤ 16
-  bytes : every (λ b. ltb b 256) (graphic_rendition s.marks s.fore s.ground) ≡ true
+  is : styled plain_style (numbers_of s.marks s.fore s.back) ≡ s
+  small : every (λ n. ltb n 256) (numbers_of s.marks s.fore s.back) ≡ true
+  five : length (numbers_of s.marks s.fore s.back) ≤ 5
+  short : length (graphic_rendition s.marks s.fore s.back) ≤ 16
+  bytes : every (λ b. ltb b 256) (graphic_rendition s.marks s.fore s.back) ≡ true
 
 right : (s : Style) → fine_style s ≡ true → Right s
 unfolding style_right
 right s e =
     let p = and_parts (ltb s.marks 8) _ e in
     let q = and_parts (colour s.fore) _ p.1 in
-    let t = style_at s.marks s.fore s.ground (ltb-true _ 8 p.0) (colour_small _ q.0) (colour_small _ q.1) p.1 in
-    let a = and_parts (same_style (styled plain_style (numbers_of s.marks s.fore s.ground)) s) _ t in
-    let b = and_parts (every (λ n. ltb n 256) (numbers_of s.marks s.fore s.ground)) _ a.1 in
-    let c = and_parts (leb (length (numbers_of s.marks s.fore s.ground)) 5) _ b.1 in
-    let d = and_parts (leb (length (graphic_rendition s.marks s.fore s.ground)) 16) _ c.1 in
+    let t = style_at s.marks s.fore s.back (ltb-true _ 8 p.0) (colour_small _ q.0) (colour_small _ q.1) p.1 in
+    let a = and_parts (same_style (styled plain_style (numbers_of s.marks s.fore s.back)) s) _ t in
+    let b = and_parts (every (λ n. ltb n 256) (numbers_of s.marks s.fore s.back)) _ a.1 in
+    let c = and_parts (leb (length (numbers_of s.marks s.fore s.back)) 5) _ b.1 in
+    let d = and_parts (leb (length (graphic_rendition s.marks s.fore s.back)) 16) _ c.1 in
     record { is = same_style_sound _ s a.0; small = b.0; five = leb-true _ 5 c.0; short = leb-true _ 16 d.0; bytes = d.1 }
 
-pub written_rendition : (v : View) (s : Style) → fine_style s ≡ true → written (term_of v) (graphic_rendition s.marks s.fore s.ground) ≡ term_of (restyled v s)
+pub written_rendition : (v : View) (s : Style) → fine_style s ≡ true → written (term_of v) (graphic_rendition s.marks s.fore s.back) ≡ term_of (restyled v s)
 unfolding written byte low_byte styled
 written_rendition v s e =
     let r = right s e in
     let f = r.five in
-    rw (rendition_is s.marks s.fore s.ground)
-    (style_numbers v [] 0 (numbers_of s.marks s.fore s.ground) (omega arith) (omega arith) r.small
+    rw (rendition_is s.marks s.fore s.back)
+    (style_numbers v [] 0 (numbers_of s.marks s.fore s.back) (omega arith) (omega arith) r.small
     ∙ ap (λ (x : Style). term_of (restyled v x)) r.is)
 
 pub small_rendition : (s : Style) → fine_style s ≡ true
-    → (length (graphic_rendition s.marks s.fore s.ground) ≤ 16) × (every (λ b. ltb b 256) (graphic_rendition s.marks s.fore s.ground) ≡ true)
+    → (length (graphic_rendition s.marks s.fore s.back) ≤ 16) × (every (λ b. ltb b 256) (graphic_rendition s.marks s.fore s.back) ≡ true)
 small_rendition s e = let r = right s e in (r.short, r.bytes)
 
 -- a character

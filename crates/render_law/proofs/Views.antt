@@ -1,7 +1,7 @@
 -- A viewer's terminal by its rows, cursor, style and cursor's visibility, and what may change in it.
 use Rattle.std.proofs.Common.{ℕ, suc, ◌-◌, Bool, true, false, ltb, List, []}
 use Rattle.meaning.specs.Words.{pick, put_at}
-use Rattle.meaning.specs.Screen.{Style, Cell, Term, Reading, ground, at_start, row_at}
+use Rattle.meaning.specs.Screen.{Style, Cell, Term, Reading, ground_state, at_start, row_at}
 use Rattle.grid.specs.Cells.{style_of, rows_of}
 use Rattle.render.specs.declared.pen.Pen.{Pen}
 
@@ -37,7 +37,7 @@ term_at v rd = record {
 }
 
 abbrev pub term_of : View → Term
-term_of v = term_at v ground
+term_of v = term_at v ground_state
 
 abbrev pub view_of : ℕ → ℕ → List ℕ → Pen → View
 view_of w h screen pen =

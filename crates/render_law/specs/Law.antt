@@ -40,7 +40,7 @@ pub record Fits (w h : ℕ) (pen : Pen) : Type 0 where
   pub col : pen.col < w
   pub marks : pen.rendition.marks < 2 ^ 16
   pub fore : pen.rendition.fore < 2 ^ 8
-  pub ground : pen.rendition.ground < 2 ^ 8
+  pub back : pen.rendition.back < 2 ^ 8
 
 -- what any go keeps, also where picture, screen or pen are no such thing: the count of cells, what holds of all cells and of a blank, and the pen's range
 pub record Keeps (w h : ℕ) (pic screen : List ℕ) (pen : Pen) (d : Go) : Type 0 where

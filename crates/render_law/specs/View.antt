@@ -1,6 +1,6 @@
 -- The viewer's terminal, as cells and a pen model it.
 use Rattle.std.specs.Prelude.{ℕ, ◌-◌, true, false, List, []}
-use Rattle.meaning.specs.Screen.{Term, ground, at_start}
+use Rattle.meaning.specs.Screen.{Term, ground_state, at_start}
 use Rattle.grid.specs.Cells.{style_of, rows_of}
 use Rattle.render.specs.declared.pen.Pen.{Pen}
 
@@ -21,6 +21,6 @@ viewer w h screen pen = record {
   origin = false;
   shown = pen.visible;
   saved = at_start;
-  reading = ground;
+  reading = ground_state;
   answer = [];
 }

@@ -1,7 +1,7 @@
 -- What a terminal has answered decides nothing: two that differ only in that differ only in that whatever is written on both.
 use Rattle.std.proofs.Common.{◌≡◌, ℕ, suc, ◌-◌, Bool, true, false, not, ◌&&◌, eqb, ltb, leb, List, [], ◌∷◌, get_or, sym, refl, ap, subst}
 use Rattle.meaning.specs.Words.{pick, or, none_of, smaller, put_at}
-use Rattle.meaning.specs.Screen.{Term, Reading, ground, escape, sequence, passed, string, string_end, at, with_answer, change_row, opened, with_region, with_modes, row_on, put_sign, step_right, printed, goes_to, wipe_row, wipe_all, in_region, region}
+use Rattle.meaning.specs.Screen.{Term, Reading, ground_state, escape, sequence, passed, string, string_end, at, with_answer, change_row, opened, with_region, with_modes, row_on, put_sign, step_right, printed, goes_to, wipe_row, wipe_all, in_region, region}
 use Rattle.meaning.specs.Bytes.{control, one_of, answers, mode_one, modes, done_sequence, done_escape, all_numbers, byte_of_sequence, byte_read, is_string, back_to_ground, low_byte, byte, written}
 use Rattle.shown.specs.Driven.{unheard}
 
@@ -120,7 +120,7 @@ module _ (a : List ℕ) where
       (alike_pick (leb 64 c) _ _ _ _ (alike_sequence (back_to_ground t) private (all_numbers ps now) c) (alike refl))))
 
   alike_read : (t : Term) (r : Reading) (c : ℕ) → Alike (byte_read t r c) (byte_read (other a t) r c)
-  alike_read t ground c = alike_printed a t _
+  alike_read t ground_state c = alike_printed a t _
   alike_read t escape c =
       alike_pick (eqb c 91) _ _ _ _ (alike refl) (alike_pick (eqb c 93) _ _ _ _ (alike refl)
       (alike_pick (leb 32 c && leb c 47) _ _ _ _ (alike refl) (alike_escape a (back_to_ground t) c)))

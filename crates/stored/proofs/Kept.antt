@@ -33,10 +33,10 @@ pane_kept w h p some_wide wide some_high high s f r e n =
         on_col = omega arith;
         ordered = s.ordered;
         inside = omega arith;
-        writes = (a.marks, a.fore, a.ground);
+        writes = (a.marks, a.fore, a.back);
         saved_row = r.saved_row;
         saved_col = r.saved_col;
-        saves = (b.marks, b.fore, b.ground);
+        saves = (b.marks, b.fore, b.back);
         reads = short_fits t.reading r.short;
       };
       silent = e;

@@ -1,7 +1,7 @@
 -- The parser's next state, for bytes that change nothing else.
 use Rattle.std.specs.Prelude.{ℕ, ◌-◌, Bool, true, false, not, ◌&&◌, List, [], ◌∷◌, ◌++◌, take, ◌==◌, nat_le}
 use Rattle.meaning.specs.Words.{pick, none_of}
-use Rattle.meaning.specs.Screen.{Reading, ground, sequence, passed, string, string_end}
+use Rattle.meaning.specs.Screen.{Reading, ground_state, sequence, passed, string, string_end}
 use Rattle.meaning.specs.Bytes.{add_digit, ended}
 
 -- in a control sequence, below its final bytes: a digit, a semicolon, a ? that comes first; others spoil it
@@ -13,4 +13,4 @@ parameter_read private ps now c =
 
 -- in a control string: ESC may begin its end, BEL is one
 abbrev pub string_read : ℕ → Reading
-string_read c = pick (c == 27) string_end (pick (c == 7) ground string)
+string_read c = pick (c == 27) string_end (pick (c == 7) ground_state string)

@@ -1,6 +1,6 @@
 -- What the code's state stands for: a terminal of the definitions, with rows and answer from the lent memory beside it.
 use Rattle.std.specs.Prelude.{ℕ, List, [], ◌∷◌, take, Some, None, Option}
-use Rattle.meaning.specs.Screen.{Cell, Term, Saved, Reading, ground, escape, sequence, passed, string, string_end}
+use Rattle.meaning.specs.Screen.{Cell, Term, Saved, Reading, ground_state, escape, sequence, passed, string, string_end}
 use Rattle.grid.specs.Cells.{style_of, rows_of}
 use Rattle.terminal.specs.declared.state.Kept.{Kept}
 use Rattle.terminal.specs.declared.state.Parameters.{Parameters}
@@ -16,7 +16,7 @@ abbrev pub numbers_of : Parameters → List ℕ
 numbers_of p = take p.count p.list
 
 abbrev pub reading_of : Parser → Reading
-reading_of Ground = ground
+reading_of Ground = ground_state
 reading_of Escape = escape
 reading_of (Sequence private p) = sequence private (numbers_of p) (begun_of p.begun)
 reading_of Ignored = passed

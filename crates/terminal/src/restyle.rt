@@ -27,7 +27,7 @@ fn changed(start: Rendition, numbers: &[u64]) -> Rendition
 fn as_number(r: Rendition) -> u64
     ensures { result ≡ as_number (style_of r) }
 {
-    100 * r.marks as u64 + 10 * r.fore as u64 + r.ground as u64
+    100 * r.marks as u64 + 10 * r.fore as u64 + r.back as u64
 }
 
 // Refused(1) if the number is no style, Refused(2) if there are more than 16 numbers.
@@ -43,7 +43,7 @@ pub fn restyle(style: u64, numbers: &[u64]) -> Reply
     let start = Rendition {
         marks: (style / 100) as u16,
         fore: (style / 10 % 10) as u8,
-        ground: (style % 10) as u8,
+        back: (style % 10) as u8,
     };
     Reply::DrawnSo(as_number(changed(start, numbers)))
 }

@@ -42,11 +42,11 @@ pub(crate) fn change(r: Rendition, n: u64) -> Rendition
 {
     let marks = marks_after(r.marks, n);
     let fore = colour_after(30, r.fore, n);
-    let ground = colour_after(40, r.ground, n);
+    let back = colour_after(40, r.back, n);
     Rendition {
         marks,
         fore,
-        ground,
+        back,
     }
 }
 

@@ -16,7 +16,7 @@ use grid::size::Size;
 const PLAIN: Rendition = Rendition {
     marks: 0,
     fore: 9,
-    ground: 9,
+    back: 9,
 };
 
 impl Terminal {

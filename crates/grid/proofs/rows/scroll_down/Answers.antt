@@ -3,18 +3,18 @@ use Rattle.std.proofs.lemmas.Bool.Decides.{nat_tests}
 use Rattle.grid.proofs.Regions.{rows_scrolled_down, row_starts_in}
 use Rattle.grid.proofs.rows.scroll_down.Goals as goal
 
-pub slice-bounds-shift-in-count : goal.slice-bounds-shift-in-count
-slice-bounds-shift-in-count c = mul-le-mul_right _ (omega arith)
+pub slice_bounds-shift_in-count : goal.slice_bounds-shift_in-count
+slice_bounds-shift_in-count c = mul-le-mul_right _ (omega arith)
 
-pub slice-bounds-shift-in-start : goal.slice-bounds-shift-in-start
-slice-bounds-shift-in-start c = mul-le-mul_right _ (omega arith)
+pub slice_bounds-shift_in-start : goal.slice_bounds-shift_in-start
+slice_bounds-shift_in-start c = mul-le-mul_right _ (omega arith)
 
-pub slice-bounds-shift-in-end : goal.slice-bounds-shift-in-end
-slice-bounds-shift-in-end c = row_starts_in _ c.args.size.high _ _ (c.if-cells.false ∙ c.cells.ensures.0) (omega arith)
+pub slice_bounds-shift_in-end : goal.slice_bounds-shift_in-end
+slice_bounds-shift_in-end c = row_starts_in _ c.args.size.high _ _ (c.if-cells.false ∙ c.cells.ensures.0) (omega arith)
 
 pub returns : goal.returns
 returns c = record {
   told = grind (arith, nat_tests);
-  done = λ _. rows_scrolled_down _ _ _ _ _ _ _ _ _ (omega arith) (omega arith) (c.if-cells.false ∙ c.cells.ensures.0) c.min.ensures refl c.shift-in.ensures;
+  done = λ _. rows_scrolled_down _ _ _ _ _ _ _ _ _ (omega arith) (omega arith) (c.if-cells.false ∙ c.cells.ensures.0) c.min.ensures refl c.shift_in.ensures;
   kept = λ e. absurd (search rules);
 }

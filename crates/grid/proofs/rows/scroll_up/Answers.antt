@@ -3,18 +3,18 @@ use Rattle.std.proofs.lemmas.Bool.Decides.{nat_tests}
 use Rattle.grid.proofs.Regions.{rows_scrolled_up, row_starts_in}
 use Rattle.grid.proofs.rows.scroll_up.Goals as goal
 
-pub slice-bounds-shift-out-count : goal.slice-bounds-shift-out-count
-slice-bounds-shift-out-count c = mul-le-mul_right _ (omega arith)
+pub slice_bounds-shift_out-count : goal.slice_bounds-shift_out-count
+slice_bounds-shift_out-count c = mul-le-mul_right _ (omega arith)
 
-pub slice-bounds-shift-out-start : goal.slice-bounds-shift-out-start
-slice-bounds-shift-out-start c = mul-le-mul_right _ (omega arith)
+pub slice_bounds-shift_out-start : goal.slice_bounds-shift_out-start
+slice_bounds-shift_out-start c = mul-le-mul_right _ (omega arith)
 
-pub slice-bounds-shift-out-end : goal.slice-bounds-shift-out-end
-slice-bounds-shift-out-end c = row_starts_in _ c.args.size.high _ _ (c.if-cells.false ∙ c.cells.ensures.0) (omega arith)
+pub slice_bounds-shift_out-end : goal.slice_bounds-shift_out-end
+slice_bounds-shift_out-end c = row_starts_in _ c.args.size.high _ _ (c.if-cells.false ∙ c.cells.ensures.0) (omega arith)
 
 pub returns : goal.returns
 returns c = record {
   told = grind (arith, nat_tests);
-  done = λ _. rows_scrolled_up _ _ _ _ _ _ _ _ _ (omega arith) (omega arith) (c.if-cells.false ∙ c.cells.ensures.0) c.min.ensures refl c.shift-out.ensures;
+  done = λ _. rows_scrolled_up _ _ _ _ _ _ _ _ _ (omega arith) (omega arith) (c.if-cells.false ∙ c.cells.ensures.0) c.min.ensures refl c.shift_out.ensures;
   kept = λ e. absurd (search rules);
 }
