@@ -115,7 +115,7 @@ fn begins_with(line: &[u8], word: &[u8]) -> bool
 fn is_show(line: &[u8]) -> bool
     ensures { result ≡ bytes_eq line.now (codes "show") }
 {
-    line == b"show"
+    line == b"show".as_slice()
 }
 
 // One line of a day, without its end.

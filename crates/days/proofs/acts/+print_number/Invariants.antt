@@ -1,4 +1,4 @@
 use Rattle.days.proofs.acts.+print_number.Given as goal
 
-abbrev pub decreases-print-number : goal.decreases-print-number
-decreases-print-number l = l.n
+abbrev pub decreases-print_number : goal.decreases-print_number
+decreases-print_number l = l.n

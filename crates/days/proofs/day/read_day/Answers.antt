@@ -4,7 +4,7 @@ use Rattle.days.proofs.day.read_day.Goals as goal
 
 pub returns-in-Err : goal.returns-in-Err
 returns-in-Err c =
-    line_is_bad _ (vec_items c.loop-rest.day) c.loop-rest.rest.now _ _ c.loop-rest-test.true c.loop-rest.invariant.0 c.up-to-n.ensures c.first.ensures _ _
+    line_is_bad _ (vec_items c.loop-rest.day) c.loop-rest.rest.now _ _ c.loop-rest-test.true c.loop-rest.invariant.0 c.up_to-n.ensures c.first.ensures _ _
     (c.len-line.ensures ∙ c.loop-rest.day.ok.0) c.in-Err.ensures
 
 pub loop-rest-smaller : goal.loop-rest-smaller
@@ -12,9 +12,9 @@ loop-rest-smaller c = omega (arith, ap length c.after-rest.ensures ∙ length-dr
 
 pub loop-rest-preserved : goal.loop-rest-preserved
 loop-rest-preserved c =
-    let longer = one_longer (vec_items c.loop-rest.day) (vec_items c.keep.new.day) _ c.in-default.ensures in
+    let longer = one_longer (vec_items c.loop-rest.day) (vec_items c.keep.new.day) _ c.in_default.ensures in
     let shorter = ap length c.after-rest.ensures ∙ length-drop _ c.loop-rest.rest.now in (
-      one_line_on _ (vec_items c.loop-rest.day) c.loop-rest.rest.now _ _ c.loop-rest-test.true c.loop-rest.invariant.0 c.up-to-n.ensures c.first.ensures (vec_items c.keep.new.day) _ c.in-default.ensures c.after-rest.ensures,
+      one_line_on _ (vec_items c.loop-rest.day) c.loop-rest.rest.now _ _ c.loop-rest-test.true c.loop-rest.invariant.0 c.up_to-n.ensures c.first.ensures (vec_items c.keep.new.day) _ c.in_default.ensures c.after-rest.ensures,
       omega (arith, c.loop-rest.day.ok.0, c.keep.new.day.ok.0),
     )
 

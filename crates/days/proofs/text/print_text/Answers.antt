@@ -4,16 +4,16 @@ use Rattle.days.proofs.Escapes.{bytes_from_fits, read_back, print_more, print_do
 use Rattle.days.proofs.text.print_text.Goals as goal
 
 pub loop-b-preserved : goal.loop-b-preserved
-loop-b-preserved c = print_more _ _ _ c.args.bytes.now _ c.loop-b-test.true c.in-ok-print-byte.ensures.all c.loop-b.invariant
+loop-b-preserved c = print_more _ _ _ c.args.bytes.now _ c.loop-b-test.true c.in_ok-print_byte.ensures.all c.loop-b.invariant
 
 pub returns : goal.returns
 returns c = record {
   printed = record { all = print_done _ _ c.args.bytes.now _ c.loop-b-test.false c.loop-b.invariant };
-  back = read_back _ (bytes_from_fits _ c.type-inv.bytes);
+  back = read_back _ (bytes_from_fits _ c.type_inv.bytes);
 }
 
-pub returns-in-err-print-byte : goal.returns-in-err-print-byte
-returns-in-err-print-byte c = record {
+pub returns-in_err-print_byte : goal.returns-in_err-print_byte
+returns-in_err-print_byte c = record {
   printed = search (rules, IfOk-from_err);
-  back = read_back _ (bytes_from_fits _ c.type-inv.bytes);
+  back = read_back _ (bytes_from_fits _ c.type_inv.bytes);
 }

@@ -9,6 +9,6 @@ returns c = record {
   told = search rules;
   done = λ _ rs a.
       three_parts 16 16 32 c.args.header.now c.copy-from-slice.new.self c.copy-from-slice-2.new.self _ c.if-header-ne64.false (omega arith) (omega arith)
-      ∙ same_parts _ _ _ _ _ _ (c.copy-from-slice.ensures.after ∙ c.numbers_of_screen.ensures rs a) (c.copy-from-slice-2.ensures.after ∙ c.numbers_of_parser.ensures) (c.copy-from-slice-3.ensures.after ∙ c.parameter-numbers.ensures);
+      ∙ same_parts _ _ _ _ _ _ (c.copy-from-slice.ensures.after ∙ c.screen_numbers.ensures rs a) (c.copy-from-slice-2.ensures.after ∙ c.parser_numbers.ensures) (c.copy-from-slice-3.ensures.after ∙ c.parameter-numbers.ensures);
   kept = λ e. absurd (search rules);
 }

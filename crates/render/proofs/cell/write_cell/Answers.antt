@@ -8,6 +8,6 @@ unfolding cell_bytes
 returns c =
     let p = c.push.ensures.added (omega arith) in
     record {
-      added = then c.move-to-a.ensures.added (then (rw c.rendition.ensures at c.restyle-b.ensures.added) p);
+      added = then c.move_to-a.ensures.added (then (rw c.rendition.ensures at c.restyle-b.ensures.added) p);
       most = omega arith;
     }

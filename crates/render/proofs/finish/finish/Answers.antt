@@ -12,4 +12,4 @@ returns-then-out-lt16 c = refused _ _ _ _ _ _ _ (elim c.then-out-lt16.branch [
 ])
 
 pub returns : goal.returns
-returns c = closed _ _ _ _ _ _ _ _ _ _ (omega arith) (sym c.allowed.ensures ∙ c.if-not-allowed.false) c.write-closing-len.ensures.added c.write-closing-len.ensures.most c.closing-pen.ensures
+returns c = closed _ _ _ _ _ _ _ _ _ _ (omega arith) (sym c.allowed.ensures ∙ c.if-not-allowed.false) c.write_closing-len.ensures.added c.write_closing-len.ensures.most c.closing_pen.ensures

@@ -5,8 +5,8 @@ use Rattle.render.proofs.finish.write_closing.Goals as goal
 
 pub returns-then-pen-visible : goal.returns-then-pen-visible
 unfolding finish_bytes
-returns-then-pen-visible c = record { added = rw c.if-pen-visible.true (then c.put-cursor-a.ensures.added (none_added _ _)); most = omega arith }
+returns-then-pen-visible c = record { added = rw c.if-pen-visible.true (then c.put_cursor-a.ensures.added (none_added _ _)); most = omega arith }
 
 pub returns-else-pen-visible : goal.returns-else-pen-visible
 unfolding finish_bytes
-returns-else-pen-visible c = record { added = rw c.if-pen-visible.false (then c.put-cursor-a.ensures.added c.show-cursor.ensures.added); most = omega arith }
+returns-else-pen-visible c = record { added = rw c.if-pen-visible.false (then c.put_cursor-a.ensures.added c.show_cursor.ensures.added); most = omega arith }

@@ -12,8 +12,8 @@ returns c =
       added =
           then c.introduce-a.ensures.added
           (then p
-          (then c.add-if-d.ensures.added
-          (then c.add-if-e.ensures.added
-          (then c.add-if-f.ensures.added (then c.add-parameter-g.ensures.added (then c.add-parameter-h.ensures.added q))))));
+          (then c.add_if-d.ensures.added
+          (then c.add_if-e.ensures.added
+          (then c.add_if-f.ensures.added (then c.add_parameter-g.ensures.added (then c.add_parameter-h.ensures.added q))))));
       most = omega arith;
     }

@@ -17,7 +17,7 @@ visible t e p = rw e p
 pub returns : goal.returns
 returns c =
     let s = c.args.term.now in
-    let p = c.write-text-a.ensures in
+    let p = c.write_text-a.ensures in
     let q = told_as _ _ (add-one s.cursor.row) (c.number-b.ensures.added (omega arith) (omega arith)) in
     let d = c.push-d.ensures.added (omega arith) in
     let e = told_as _ _ (add-one s.cursor.col) (c.number-e.ensures.added (omega arith) (omega arith)) in

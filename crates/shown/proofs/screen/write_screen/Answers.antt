@@ -5,6 +5,6 @@ use Rattle.shown.proofs.screen.write_screen.Goals as goal
 
 pub returns-in-Ok : goal.returns-in-Ok
 returns-in-Ok c =
-    let e = c.write-all-n.ensures.added [] in
+    let e = c.write_all-n.ensures.added [] in
     let i = simp sub-zero at c.in-Ok.ensures.items in
     (grind (arith, nat_tests), i ∙ ap (λ (xs : List ℕ). vec_items c.args.out.now ++ xs) e)

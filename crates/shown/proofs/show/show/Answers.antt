@@ -5,4 +5,4 @@ use Rattle.shown.proofs.show.show.Goals as goal
 pub returns : goal.returns
 returns c =
     let s = c.in-Some.ensures in
-    shows (vec_items c.args.out.now) c.args.size c.args.cells.now c.args.bytes.now _ _ _ _ _ c.write-screen.result (vec_items c.write-screen.new.out) s.0 s.1 (s.2 []) (omega arith) (omega arith) c.feed-all.ensures c.write-screen.ensures
+    shows (vec_items c.args.out.now) c.args.size c.args.cells.now c.args.bytes.now _ _ _ _ _ c.write_screen.result (vec_items c.write_screen.new.out) s.0 s.1 (s.2 []) (omega arith) (omega arith) c.feed_all.ensures c.write_screen.ensures

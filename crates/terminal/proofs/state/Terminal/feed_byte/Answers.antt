@@ -7,7 +7,7 @@ pub returns-in-0-to-31 : goal.returns-in-0-to-31
 returns-in-0-to-31 c =
     let a = take c.args.n c.args.out.now in
     record {
-      term = c.low-byte.ensures a ∙ sym (byte_low (term_on c.args.self.now c.args.cells.now a) c.args.b (omega arith));
+      term = c.low_byte.ensures a ∙ sym (byte_low (term_on c.args.self.now c.args.cells.now a) c.args.b (omega arith));
       answer = record { least = omega arith; few = omega arith; kept = refl };
     }
 
@@ -19,8 +19,8 @@ returns-in-127 c =
       answer = record { least = omega arith; few = omega arith; kept = refl };
     }
 
-pub returns-in-default : goal.returns-in-default
-returns-in-default c =
+pub returns-in_default : goal.returns-in_default
+returns-in_default c =
     let a = take c.args.n c.args.out.now in
     record {
       term = c.read.ensures.term ∙ sym (byte_high (term_on c.args.self.now c.args.cells.now a) c.args.b (omega arith) (λ e. omega arith));

@@ -5,20 +5,20 @@ use Rattle.terminal.proofs.Lows.{low_control, low_string, low_escape, low_cancel
 use Rattle.terminal.proofs.state.Terminal.low_byte.Goals as goal
 
 pub returns-in-27 : goal.returns-in-27
-returns-in-27 c = λ a. sym (low_escape (term_on c.args.self.now c.args.cells.now a) c.args.b (sym c.if-in-string.ensures) c.in-27.is)
+returns-in-27 c = λ a. sym (low_escape (term_on c.args.self.now c.args.cells.now a) c.args.b (sym c.if-in_string.ensures) c.in-27.is)
 
 pub returns-in-24 : goal.returns-in-24
-returns-in-24 c = λ a. sym (low_cancel (term_on c.args.self.now c.args.cells.now a) c.args.b (sym c.if-in-string.ensures) (inl c.in-24.is))
+returns-in-24 c = λ a. sym (low_cancel (term_on c.args.self.now c.args.cells.now a) c.args.b (sym c.if-in_string.ensures) (inl c.in-24.is))
 
 pub returns-in-26 : goal.returns-in-26
-returns-in-26 c = λ a. sym (low_cancel (term_on c.args.self.now c.args.cells.now a) c.args.b (sym c.if-in-string.ensures) (inr c.in-26.is))
+returns-in-26 c = λ a. sym (low_cancel (term_on c.args.self.now c.args.cells.now a) c.args.b (sym c.if-in_string.ensures) (inr c.in-26.is))
 
-pub returns-in-default : goal.returns-in-default
-returns-in-default c = λ a.
-    c.control-character.ensures a
-    ∙ sym (low_control (term_on c.args.self.now c.args.cells.now a) c.args.b (sym c.if-in-string.ensures) (omega arith) (omega arith) (omega arith))
+pub returns-in_default : goal.returns-in_default
+returns-in_default c = λ a.
+    c.control_character.ensures a
+    ∙ sym (low_control (term_on c.args.self.now c.args.cells.now a) c.args.b (sym c.if-in_string.ensures) (omega arith) (omega arith) (omega arith))
 
-pub returns-then-in-string : goal.returns-then-in-string
-returns-then-in-string c = λ a.
+pub returns-then-in_string : goal.returns-then-in_string
+returns-then-in_string c = λ a.
     let t = term_on c.args.self.now c.args.cells.now a in
-    ap (with_reading t) c.string-byte-self.ensures ∙ sym (low_string t c.args.b (sym c.if-in-string.ensures))
+    ap (with_reading t) c.string_byte-self.ensures ∙ sym (low_string t c.args.b (sym c.if-in_string.ensures))

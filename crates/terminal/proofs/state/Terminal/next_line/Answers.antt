@@ -3,4 +3,4 @@ use Rattle.meaning.specs.Screen.{Term, at}
 use Rattle.terminal.proofs.state.Terminal.next_line.Goals as goal
 
 pub returns : goal.returns
-returns c = λ xs a. c.carriage-return.ensures xs a ∙ ap (λ (t : Term). at t t.row 0) (c.cursor-down.ensures xs a)
+returns c = λ xs a. c.carriage_return.ensures xs a ∙ ap (λ (t : Term). at t t.row 0) (c.cursor_down.ensures xs a)

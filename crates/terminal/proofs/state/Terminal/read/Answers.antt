@@ -7,7 +7,7 @@ pub returns-then-b-lt128 : goal.returns-then-b-lt128
 returns-then-b-lt128 c =
     let t = term_on c.args.self.now c.args.cells.now (take c.args.n c.args.out.now) in
     record {
-      term = c.byte_of_sequence.ensures.term
+      term = c.sequence_byte.ensures.term
           ∙ sym (sequence_read t c.args.self.now.parser c.in-Sequence.private c.in-Sequence.p c.args.b c.in-Sequence.is c.if-b-lt128.true);
-      answer = c.byte_of_sequence.ensures.answer;
+      answer = c.sequence_byte.ensures.answer;
     }

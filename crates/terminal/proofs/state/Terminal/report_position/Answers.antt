@@ -14,7 +14,7 @@ told_as {n} {r} {old} {new} j k e d = subst (λ (i : ℕ). Added n old r new (in
 pub returns : goal.returns
 returns c =
     let s = c.args.self.now in
-    let row : c.saturating-sub-row.result + 1 ≡ suc (s.cursor.row - pick s.modes.origin s.top 0) =
+    let row : c.saturating_sub-row.result + 1 ≡ suc (s.cursor.row - pick s.modes.origin s.top 0) =
     elim c.if-self.branch [ then-self w ↦ grind (arith, nat_tests) | else-self w ↦ grind (arith, nat_tests) ] in
     let p = c.push-a.ensures.added (omega arith) in
     let q = c.push-b.ensures.added (omega arith) in

@@ -8,5 +8,5 @@ use Rattle.terminal.proofs.state.Terminal.reset.Goals as goal
 pub returns : goal.returns
 returns c = λ a.
     let s = c.args.self.now.size in
-    c.at-first.ensures.state c.erase-rows.new.cells a
-    (edited c.erase-rows.ensures (grind (arith, nat_tests)) ∙ blanked_all s.wide s.high _ (length_rows s.wide s.high c.args.cells.now))
+    c.at_first.ensures.state c.erase_rows.new.cells a
+    (edited c.erase_rows.ensures (grind (arith, nat_tests)) ∙ blanked_all s.wide s.high _ (length_rows s.wide s.high c.args.cells.now))

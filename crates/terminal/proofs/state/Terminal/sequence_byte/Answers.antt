@@ -10,7 +10,7 @@ pub returns-then-b-lt64 : goal.returns-then-b-lt64
 returns-then-b-lt64 c =
     let t = term_on c.args.self.now c.args.cells.now (take c.args.n c.args.out.now) in
     record {
-      term = ap (with_reading t) c.parameter-byte-self.ensures ∙ sym (sequence_low t c.args.private (numbers_of c.args.p) (begun_of c.args.p.begun) c.args.b (omega arith));
+      term = ap (with_reading t) c.parameter_byte-self.ensures ∙ sym (sequence_low t c.args.private (numbers_of c.args.p) (begun_of c.args.p.begun) c.args.b (omega arith));
       answer = record { least = omega arith; few = omega arith; kept = refl };
     }
 

@@ -13,7 +13,7 @@ loop-n-preserved c = λ ys a.
     let xs = c.args.numbers.now in
     let i = c.loop-n.n-index in
     let e : modes v p t (drop i xs) ≡ modes v p (mode_one v p t (get_or xs i 0)) (drop (i + 1) xs) = at_drop_more (modes v p t) xs i 0 c.loop-n-test.true in
-    let f = c.set-mode.ensures ys a in
+    let f = c.set_mode.ensures ys a in
     let g = c.loop-n.invariant ys a in cc
 
 pub returns : goal.returns

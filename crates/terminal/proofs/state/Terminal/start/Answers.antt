@@ -10,7 +10,7 @@ pub returns : goal.returns
 returns c =
     let s = c.args.size in (
       grind (arith, nat_tests),
-      c.at-first.ensures.size,
-      λ a. c.at-first.ensures.state c.erase-rows.new.cells a
-          (edited c.erase-rows.ensures (grind (arith, nat_tests)) ∙ blanked_all s.wide s.high _ (length_rows s.wide s.high c.args.cells.now)),
+      c.at_first.ensures.size,
+      λ a. c.at_first.ensures.state c.erase_rows.new.cells a
+          (edited c.erase_rows.ensures (grind (arith, nat_tests)) ∙ blanked_all s.wide s.high _ (length_rows s.wide s.high c.args.cells.now)),
     )
