@@ -1,6 +1,6 @@
 -- Which line it is: the tests of a line, one after the other.
 use Rattle.std.proofs.Common.{◌≡◌, ℕ, ◌+◌, ◌<◌, ◌≤◌, Bool, true, false, cond, ◌&&◌, List, length, get_or, take, drop, Ok, Err, codes, Decides, Result, sym, ap, ◌∙◌, subst}
-use Rattle.std.specs.Cmp.Lexicographic.{Matches}
+use Rattle.std.specs.Cmp.Lexicographic.{pointwise}
 use Rattle.std.specs.Str.{bytes_eq}
 use Rattle.std.proofs.lemmas.Slice.Eq.{slice_eq-Decides, bytes_eq-Decides}
 use Rattle.std.proofs.lemmas.List.{at_drop_more, at_drop_all}
@@ -20,10 +20,7 @@ blank_more cs i h e = sym (at_drop_more all_blank cs i 0 h ∙ ap (λ b. b && al
 pub blank_ends : (cs : List ℕ) (i : ℕ) → length cs ≤ i → true ≡ all_blank (drop i cs)
 blank_ends cs i h = sym (at_drop_all all_blank cs i h)
 
-pub same_from_matches : (xs ys : List ℕ) (r : Bool) → Matches (λ (a b : ℕ) (t : Bool). Decides t (a ≡ b)) xs ys r → r ≡ bytes_eq xs ys
-same_from_matches xs ys r h = same_from_decides r _ (slice_eq-Decides Decides-eqb xs ys r h) (bytes_eq-Decides xs ys)
-
-pub begins_from_matches : (cs w : List ℕ) (r : Bool) → Matches (λ (a b : ℕ) (t : Bool). Decides t (a ≡ b)) w (take (length w) cs) r → r ≡ begins cs w
+pub begins_from_matches : (cs w : List ℕ) (r : Bool) → r ≡ pointwise eqb w (take (length w) cs) → r ≡ begins cs w
 begins_from_matches cs w r h = same_from_decides r _ (Decides-like r sym sym (slice_eq-Decides Decides-eqb w _ r h)) (bytes_eq-Decides (take (length w) cs) w)
 
 -- the tests that come before the words, failed

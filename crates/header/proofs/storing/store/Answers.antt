@@ -8,7 +8,7 @@ unfolding header_of
 returns c = record {
   told = search rules;
   done = λ _ rs a.
-      three_parts 16 16 32 c.args.header.now c.copy-from-slice.new.self c.copy-from-slice-2.new.self _ c.if-header-ne64.false (omega arith) (omega arith)
-      ∙ same_parts _ _ _ _ _ _ (c.copy-from-slice.ensures.after ∙ c.screen_numbers.ensures rs a) (c.copy-from-slice-2.ensures.after ∙ c.parser_numbers.ensures) (c.copy-from-slice-3.ensures.after ∙ c.parameter-numbers.ensures);
+      three_parts 16 16 32 c.args.header.now c.copy_from_slice.new.self c.copy_from_slice-2.new.self _ c.if-header-ne64.false (omega arith) (omega arith)
+      ∙ same_parts _ _ _ _ _ _ (c.copy_from_slice.ensures.after ∙ c.screen_numbers.ensures rs a) (c.copy_from_slice-2.ensures.after ∙ c.parser_numbers.ensures) (c.copy_from_slice-3.ensures.after ∙ c.parameter_numbers.ensures);
   kept = λ e. absurd (search rules);
 }

@@ -5,4 +5,4 @@ use Rattle.layout.proofs.status.draw_status.Goals as goal
 pub returns : goal.returns
 returns c =
     let k : c.min-count.result ≡ min (length c.args.row.now) 3 = (let l = c.fill.ensures.len in omega arith) in
-    status_drawn _ _ _ _ _ _ _ c.reversed-blank.ensures c.reversed-number.ensures c.reversed-star.ensures k (c.fill.ensures.after (λ y e. e)) c.copy-from-slice.ensures.after
+    status_drawn _ _ _ _ _ _ _ c.reversed-blank.ensures c.reversed-number.ensures c.reversed-star.ensures k (c.fill.ensures.after (λ y e. e)) c.copy_from_slice.ensures.after
