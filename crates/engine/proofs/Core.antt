@@ -1,11 +1,10 @@
--- The plain glass with no key after the prefix known but d: it has one window with one pane, or none; what each thing that comes does to it.
+-- The plain glass with no key after the prefix known, or d alone: it has one window with one pane, or none; what each thing that comes does to it.
 use Rattle.std.proofs.Common.{◌≡◌, ℕ, zero, suc, ◌+◌, ◌-◌, ◌<◌, ◌≤◌, Bool, true, false, not, ◌&&◌, eqb, ◌⊎◌, List, [], ◌∷◌, ◌++◌, length, sym, refl, ap, ◌∙◌, subst, inl, inr, arith}
 use Rattle.std.proofs.lemmas.Bool.{eq-eqb, ne_eqb, cases_Bool, cases_eq, eqb-true}
 use Rattle.meaning.specs.Words.{pick, none_of, put_at, so_many}
 use Rattle.meaning.specs.Screen.{Term, with_answer, fresh, fitted, blank_row}
 use Rattle.meaning.specs.Bytes.{written}
 use Rattle.meaning.specs.Panes.{Glass, key, from, gone, attach, Says, Turn, send, start, sized, over, turn, fit_places, settled, places, pane, Window, Pane, Rect, rect, window_at, pane_wide, pane_high, as_large, on_bytes, told, without, ids, gone_before}
-use Rattle.meaning.specs.Promise.{detaching}
 use Rattle.engine.proofs.Keyed.{on_unseen, on_prefix, on_plain, on_again, on_leave, on_other}
 
 -- one window with one pane
@@ -66,93 +65,100 @@ self n = eq-eqb n n refl
 abbrev KeyNext : Turn → One → Type 0
 KeyNext t u = (a b : Bool) × (t.next ≡ one_glass (with_look u a b)) × (length t.says ≤ 1)
 
-pub key_next : (u : One) (c : ℕ) → KeyNext (turn detaching (one_glass u) (key c)) u
-key_next u c = go (cases_Bool u.attached) (cases_Bool u.prefix) (cases_eq c 1) (cases_eq c 100)
-  where
-    g : Glass
-    g = one_glass u
-
-    by : (t : Turn) → turn detaching g (key c) ≡ t → KeyNext t u → KeyNext (turn detaching g (key c)) u
-    by t e k = subst (λ (z : Turn). KeyNext z u) (sym e) k
-
-    go : (u.attached ≡ true) ⊎ (u.attached ≡ false) → (u.prefix ≡ true) ⊎ (u.prefix ≡ false) → (c ≡ 1) ⊎ (c ≡ 1 → ⊥) → (c ≡ 100) ⊎ (c ≡ 100 → ⊥)
-        → KeyNext (turn detaching g (key c)) u
-    go (inr d) p e f = by _ (on_unseen g c d) (u.attached, u.prefix, refl, omega arith)
-    go (inl d) (inr p) (inl e) f = by _ (on_prefix g c d p e) (u.attached, true, refl, omega arith)
-    go (inl d) (inr p) (inr e) f = by _ (on_plain g c d p (ne_eqb c 1 e)) (u.attached, u.prefix, refl, omega arith)
-    go (inl d) (inl p) (inl e) f = by _ (on_again g c d p e) (u.attached, false, refl, omega arith)
-    go (inl d) (inl p) (inr e) (inl f) = by _ (on_leave g c d p f) (false, false, refl, omega arith)
-    go (inl d) (inl p) (inr e) (inr f) = by _ (on_other g c d p (ne_eqb c 1 e) (ne_eqb c 100 f)) (u.attached, false, refl, omega arith)
-
--- another size
-pub attach_next : (u : One) (w h : ℕ) → ((turn detaching (one_glass u) (attach w h)).next ≡ one_glass (resized u w h)) × (length (turn detaching (one_glass u) (attach w h)).says ≤ 1)
-unfolding turn settled fit_places places
-attach_next u w h = go (cases_Bool (as_large (room_of w h) u.term))
-  where
-    go : (as_large (room_of w h) u.term ≡ true) ⊎ (as_large (room_of w h) u.term ≡ false)
-        → ((turn detaching (one_glass u) (attach w h)).next ≡ one_glass (resized u w h)) × (length (turn detaching (one_glass u) (attach w h)).says ≤ 1)
-    go (inl a) = (simp (self u.id, a), simp (self u.id, a) (omega arith))
-    go (inr a) = (simp (self u.id, a), simp (self u.id, a) (omega arith))
-
--- bytes from the pane's program, and from another
-pub from_next : (u : One) (bs : List ℕ) → (turn detaching (one_glass u) (from u.id bs)).next ≡ one_glass (with_term u (with_answer (written u.term bs) []))
-unfolding turn on_bytes
-from_next u bs = simp (self u.id)
-
-pub from_other : (u : One) (i : ℕ) (bs : List ℕ) → (u.id ≡ i → ⊥) → ((turn detaching (one_glass u) (from i bs)).next ≡ one_glass u) × ((turn detaching (one_glass u) (from i bs)).says ≡ [])
-unfolding turn on_bytes
-from_other u i bs n = let e = ne_eqb u.id i n in (simp e, simp e)
-
--- its end, and another's
-pub gone_next : (u : One) → ((turn detaching (one_glass u) (gone u.id)).next ≡ empty u.wide u.high u.attached u.next u.prefix) × ((turn detaching (one_glass u) (gone u.id)).says ≡ over ∷ [])
-unfolding turn settled fit_places places without gone_before ids
-gone_next u = (simp (self u.id), simp (self u.id))
-
-pub gone_other : (u : One) (i : ℕ) → (u.id ≡ i → ⊥) → ((turn detaching (one_glass u) (gone i)).next ≡ one_glass u) × ((turn detaching (one_glass u) (gone i)).says ≡ [])
-unfolding turn
-gone_other u i n = let e = ne_eqb u.id i n in (simp e, simp e)
-
--- the first who looks
-pub first_attach : (w h w₁ h₁ n : ℕ) (a p : Bool)
-    → ((turn detaching (empty w₁ h₁ a n p) (attach w h)).next ≡ one_glass (started w h n)) × (length (turn detaching (empty w₁ h₁ a n p) (attach w h)).says ≤ 1)
-unfolding turn settled fit_places places
-first_attach w h w₁ h₁ n a p =
-    (simp (self n, self (pane_wide (room_of w h)), self (pane_high (room_of w h))), simp (self n, self (pane_wide (room_of w h)), self (pane_high (room_of w h))) (omega arith))
-
 -- with no window, only somebody who attaches changes more than the prefix and whether somebody looks
 abbrev KeyEmpty : Turn → (w h n : ℕ) → Type 0
 KeyEmpty t w h n = (a b : Bool) × (t.next ≡ empty w h a n b) × (length t.says ≤ 1)
 
-pub key_empty : (w h n : ℕ) (a p : Bool) (c : ℕ) → KeyEmpty (turn detaching (empty w h a n p) (key c)) w h n
-key_empty w h n a p c = go (cases_Bool a) (cases_Bool p) (cases_eq c 1) (cases_eq c 100)
-  where
-    g : Glass
-    g = empty w h a n p
+module _ (known : ℕ → Bool) (few : (c : ℕ) → (c ≡ 100 → ⊥) → known c ≡ false) where
+  pub key_next : (u : One) (c : ℕ) → KeyNext (turn known (one_glass u) (key c)) u
+  key_next u c = go (cases_Bool u.attached) (cases_Bool u.prefix) (cases_eq c 1) (cases_eq c 100)
+    where
+      g : Glass
+      g = one_glass u
 
-    by : (t : Turn) → turn detaching g (key c) ≡ t → KeyEmpty t w h n → KeyEmpty (turn detaching g (key c)) w h n
-    by t e k = subst (λ (z : Turn). KeyEmpty z w h n) (sym e) k
+      by : (t : Turn) → turn known g (key c) ≡ t → KeyNext t u → KeyNext (turn known g (key c)) u
+      by t e k = subst (λ (z : Turn). KeyNext z u) (sym e) k
 
-    go : (a ≡ true) ⊎ (a ≡ false) → (p ≡ true) ⊎ (p ≡ false) → (c ≡ 1) ⊎ (c ≡ 1 → ⊥) → (c ≡ 100) ⊎ (c ≡ 100 → ⊥) → KeyEmpty (turn detaching g (key c)) w h n
-    go (inr d) q e f = by _ (on_unseen g c d) (a, p, refl, omega arith)
-    go (inl d) (inr q) (inl e) f = by _ (on_prefix g c d q e) (a, true, refl, omega arith)
-    go (inl d) (inr q) (inr e) f = by _ (on_plain g c d q (ne_eqb c 1 e)) (a, p, refl, omega arith)
-    go (inl d) (inl q) (inl e) f = by _ (on_again g c d q e) (a, false, refl, omega arith)
-    go (inl d) (inl q) (inr e) (inl f) = by _ (on_leave g c d q f) (false, false, refl, omega arith)
-    go (inl d) (inl q) (inr e) (inr f) = by _ (on_other g c d q (ne_eqb c 1 e) (ne_eqb c 100 f)) (a, false, refl, omega arith)
+      go : (u.attached ≡ true) ⊎ (u.attached ≡ false) → (u.prefix ≡ true) ⊎ (u.prefix ≡ false) → (c ≡ 1) ⊎ (c ≡ 1 → ⊥) → (c ≡ 100) ⊎ (c ≡ 100 → ⊥)
+          → KeyNext (turn known g (key c)) u
+      go (inr d) p e f = by _ (on_unseen known g c d) (u.attached, u.prefix, refl, omega arith)
+      go (inl d) (inr p) (inl e) f = by _ (on_prefix known g c d p e) (u.attached, true, refl, omega arith)
+      go (inl d) (inr p) (inr e) f = by _ (on_plain known g c d p (ne_eqb c 1 e)) (u.attached, u.prefix, refl, omega arith)
+      go (inl d) (inl p) (inl e) f = by _ (on_again known g c d p e) (u.attached, false, refl, omega arith)
+      go (inl d) (inl p) (inr e) (inl f) = elim (cases_Bool (known 100)) [
+        | inl k ↦ by _ (on_leave known g c d p f k) (false, false, refl, omega arith)
+        | inr k ↦ by _ (on_other known g c d p (ne_eqb c 1 e) (ap known f ∙ k)) (u.attached, false, refl, omega arith)
+      ]
+      go (inl d) (inl p) (inr e) (inr f) = by _ (on_other known g c d p (ne_eqb c 1 e) (few c f)) (u.attached, false, refl, omega arith)
 
-pub from_empty : (w h n : ℕ) (a p : Bool) (i : ℕ) (bs : List ℕ) → ((turn detaching (empty w h a n p) (from i bs)).next ≡ empty w h a n p) × ((turn detaching (empty w h a n p) (from i bs)).says ≡ [])
-unfolding turn on_bytes
-from_empty w h n a p i bs = (refl, refl)
+  -- another size
+  pub attach_next : (u : One) (w h : ℕ) → ((turn known (one_glass u) (attach w h)).next ≡ one_glass (resized u w h)) × (length (turn known (one_glass u) (attach w h)).says ≤ 1)
+  unfolding turn settled fit_places places
+  attach_next u w h = go (cases_Bool (as_large (room_of w h) u.term))
+    where
+      go : (as_large (room_of w h) u.term ≡ true) ⊎ (as_large (room_of w h) u.term ≡ false)
+          → ((turn known (one_glass u) (attach w h)).next ≡ one_glass (resized u w h)) × (length (turn known (one_glass u) (attach w h)).says ≤ 1)
+      go (inl a) = (simp (self u.id, a), simp (self u.id, a) (omega arith))
+      go (inr a) = (simp (self u.id, a), simp (self u.id, a) (omega arith))
 
-pub gone_empty : (w h n : ℕ) (a p : Bool) (i : ℕ) → ((turn detaching (empty w h a n p) (gone i)).next ≡ empty w h a n p) × ((turn detaching (empty w h a n p) (gone i)).says ≡ [])
-unfolding turn
-gone_empty w h n a p i = (refl, refl)
+  -- bytes from the pane's program, and from another
+  pub from_next : (u : One) (bs : List ℕ) → (turn known (one_glass u) (from u.id bs)).next ≡ one_glass (with_term u (with_answer (written u.term bs) []))
+  unfolding turn on_bytes
+  from_next u bs = simp (self u.id)
 
--- what a program is answered is one saying, or none
-pub from_says : (u : One) (bs : List ℕ) → length (turn detaching (one_glass u) (from u.id bs)).says ≤ 1
-unfolding turn on_bytes
-from_says u bs = simp (self u.id) (one (none_of (written u.term bs).answer) _ _)
-  where
-    one : (b : Bool) (i : ℕ) (xs : List ℕ) → length (pick b [] (send i xs ∷ [])) ≤ 1
-    one true i xs = omega arith
-    one false i xs = omega arith
+  pub from_other : (u : One) (i : ℕ) (bs : List ℕ) → (u.id ≡ i → ⊥) → ((turn known (one_glass u) (from i bs)).next ≡ one_glass u) × ((turn known (one_glass u) (from i bs)).says ≡ [])
+  unfolding turn on_bytes
+  from_other u i bs n = let e = ne_eqb u.id i n in (simp e, simp e)
+
+  -- its end, and another's
+  pub gone_next : (u : One) → ((turn known (one_glass u) (gone u.id)).next ≡ empty u.wide u.high u.attached u.next u.prefix) × ((turn known (one_glass u) (gone u.id)).says ≡ over ∷ [])
+  unfolding turn settled fit_places places without gone_before ids
+  gone_next u = (simp (self u.id), simp (self u.id))
+
+  pub gone_other : (u : One) (i : ℕ) → (u.id ≡ i → ⊥) → ((turn known (one_glass u) (gone i)).next ≡ one_glass u) × ((turn known (one_glass u) (gone i)).says ≡ [])
+  unfolding turn
+  gone_other u i n = let e = ne_eqb u.id i n in (simp e, simp e)
+
+  -- the first who looks
+  pub first_attach : (w h w₁ h₁ n : ℕ) (a p : Bool)
+      → ((turn known (empty w₁ h₁ a n p) (attach w h)).next ≡ one_glass (started w h n)) × (length (turn known (empty w₁ h₁ a n p) (attach w h)).says ≤ 1)
+  unfolding turn settled fit_places places
+  first_attach w h w₁ h₁ n a p =
+      (simp (self n, self (pane_wide (room_of w h)), self (pane_high (room_of w h))), simp (self n, self (pane_wide (room_of w h)), self (pane_high (room_of w h))) (omega arith))
+
+  pub key_empty : (w h n : ℕ) (a p : Bool) (c : ℕ) → KeyEmpty (turn known (empty w h a n p) (key c)) w h n
+  key_empty w h n a p c = go (cases_Bool a) (cases_Bool p) (cases_eq c 1) (cases_eq c 100)
+    where
+      g : Glass
+      g = empty w h a n p
+
+      by : (t : Turn) → turn known g (key c) ≡ t → KeyEmpty t w h n → KeyEmpty (turn known g (key c)) w h n
+      by t e k = subst (λ (z : Turn). KeyEmpty z w h n) (sym e) k
+
+      go : (a ≡ true) ⊎ (a ≡ false) → (p ≡ true) ⊎ (p ≡ false) → (c ≡ 1) ⊎ (c ≡ 1 → ⊥) → (c ≡ 100) ⊎ (c ≡ 100 → ⊥) → KeyEmpty (turn known g (key c)) w h n
+      go (inr d) q e f = by _ (on_unseen known g c d) (a, p, refl, omega arith)
+      go (inl d) (inr q) (inl e) f = by _ (on_prefix known g c d q e) (a, true, refl, omega arith)
+      go (inl d) (inr q) (inr e) f = by _ (on_plain known g c d q (ne_eqb c 1 e)) (a, p, refl, omega arith)
+      go (inl d) (inl q) (inl e) f = by _ (on_again known g c d q e) (a, false, refl, omega arith)
+      go (inl d) (inl q) (inr e) (inl f) = elim (cases_Bool (known 100)) [
+        | inl k ↦ by _ (on_leave known g c d q f k) (false, false, refl, omega arith)
+        | inr k ↦ by _ (on_other known g c d q (ne_eqb c 1 e) (ap known f ∙ k)) (a, false, refl, omega arith)
+      ]
+      go (inl d) (inl q) (inr e) (inr f) = by _ (on_other known g c d q (ne_eqb c 1 e) (few c f)) (a, false, refl, omega arith)
+
+  pub from_empty : (w h n : ℕ) (a p : Bool) (i : ℕ) (bs : List ℕ) → ((turn known (empty w h a n p) (from i bs)).next ≡ empty w h a n p) × ((turn known (empty w h a n p) (from i bs)).says ≡ [])
+  unfolding turn on_bytes
+  from_empty w h n a p i bs = (refl, refl)
+
+  pub gone_empty : (w h n : ℕ) (a p : Bool) (i : ℕ) → ((turn known (empty w h a n p) (gone i)).next ≡ empty w h a n p) × ((turn known (empty w h a n p) (gone i)).says ≡ [])
+  unfolding turn
+  gone_empty w h n a p i = (refl, refl)
+
+  -- what a program is answered is one saying, or none
+  pub from_says : (u : One) (bs : List ℕ) → length (turn known (one_glass u) (from u.id bs)).says ≤ 1
+  unfolding turn on_bytes
+  from_says u bs = simp (self u.id) (one (none_of (written u.term bs).answer) _ _)
+    where
+      one : (b : Bool) (i : ℕ) (xs : List ℕ) → length (pick b [] (send i xs ∷ [])) ≤ 1
+      one true i xs = omega arith
+      one false i xs = omega arith

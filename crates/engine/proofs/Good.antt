@@ -7,7 +7,7 @@ use Rattle.meaning.specs.Words.{pick, every, so_many, larger}
 use Rattle.meaning.specs.Screen.{Term, Reading, ground_state, escape, sequence, passed, string, string_end, fresh, fitted, with_answer}
 use Rattle.meaning.specs.Bytes.{written}
 use Rattle.meaning.specs.Panes.{Glass, Event, key, from, gone, attach, turn, pane_wide, pane_high, as_large}
-use Rattle.meaning.specs.Promise.{detaching, proper_event}
+use Rattle.meaning.specs.Promise.{proper_event}
 use Rattle.meaning.proofs.Sound.{Sound, SoundFields, AsWide, sound_written, sound_fitted, sound_fresh}
 use Rattle.meaning.proofs.Readings.{Short, Held, held_written}
 use Rattle.meaning.proofs.Drawable.{Fine, fine_written, fine_fresh, fine_fitted, fine_answer}
@@ -183,45 +183,46 @@ gone_ok n u o = let p = o.pane in record { is = refl; some_wide = p.some_wide; w
 less : (n w h k : ℕ) (a p b q : Bool) → EmptyOk (suc n) (empty w h a k p) → EmptyOk n (empty w h b k q)
 less n w h k a p b q o = record { is = refl; some_wide = o.some_wide; wide = o.wide; some_high = o.some_high; high = o.high; left = (let l = o.left in omega arith) }
 
-one_turn : (n : ℕ) (u : One) (ev : Event) → proper_event ev ≡ true → OneOk n u → Good n (turn detaching (one_glass u) ev).next
-one_turn n u (key c) p o = let k = key_next u c in as_one n _ (with_look u k.0 k.1) k.2 (record { pane = record { some_wide = o.pane.some_wide; wide = o.pane.wide; some_high = o.pane.some_high; high = o.pane.high; sound = o.pane.sound; fine = o.pane.fine }; reads = o.reads; silent = o.silent; number = o.number; left = o.left })
-one_turn n u (from i bs) p o = elim (cases_eq u.id i) [
-  | inl e ↦ subst (λ (j : ℕ). Good n (turn detaching (one_glass u) (from j bs)).next) e (as_one n _ _ (from_next u bs) (from_ok n u bs o))
-  | inr e ↦ as_one n _ u (from_other u i bs e).0 o
-]
-one_turn n u (gone i) p o = elim (cases_eq u.id i) [
-  | inl e ↦ subst (λ (j : ℕ). Good n (turn detaching (one_glass u) (gone j)).next) e (as_none n _ _ _ _ _ _ (gone_next u).0 (gone_ok n u o))
-  | inr e ↦ as_one n _ u (gone_other u i e).0 o
-]
-one_turn n u (attach w h) p o = as_one n _ (resized u w h) (attach_next u w h).0 (attach_ok n u w h (proper_size w h p) o)
+module _ (known : ℕ → Bool) (few : (c : ℕ) → (c ≡ 100 → ⊥) → known c ≡ false) where
+  one_turn : (n : ℕ) (u : One) (ev : Event) → proper_event ev ≡ true → OneOk n u → Good n (turn known (one_glass u) ev).next
+  one_turn n u (key c) p o = let k = key_next known few u c in as_one n _ (with_look u k.0 k.1) k.2 (record { pane = record { some_wide = o.pane.some_wide; wide = o.pane.wide; some_high = o.pane.some_high; high = o.pane.high; sound = o.pane.sound; fine = o.pane.fine }; reads = o.reads; silent = o.silent; number = o.number; left = o.left })
+  one_turn n u (from i bs) p o = elim (cases_eq u.id i) [
+    | inl e ↦ subst (λ (j : ℕ). Good n (turn known (one_glass u) (from j bs)).next) e (as_one n _ _ (from_next known few u bs) (from_ok n u bs o))
+    | inr e ↦ as_one n _ u (from_other known few u i bs e).0 o
+  ]
+  one_turn n u (gone i) p o = elim (cases_eq u.id i) [
+    | inl e ↦ subst (λ (j : ℕ). Good n (turn known (one_glass u) (gone j)).next) e (as_none n _ _ _ _ _ _ (gone_next known few u).0 (gone_ok n u o))
+    | inr e ↦ as_one n _ u (gone_other known few u i e).0 o
+  ]
+  one_turn n u (attach w h) p o = as_one n _ (resized u w h) (attach_next known few u w h).0 (attach_ok n u w h (proper_size w h p) o)
 
-pub turn_good : (n : ℕ) (g : Glass) (ev : Event) → proper_event ev ≡ true → Good (suc n) g → Good n (turn detaching g ev).next
-turn_good n _ ev p (one u o) = one_turn n u ev p (fewer n u o)
-turn_good n _ (key c) p (none w h k a b o) = let e = key_empty w h k a b c in as_none n _ w h k e.0 e.1 e.2 (less n w h k a b e.0 e.1 o)
-turn_good n _ (from i bs) p (none w h k a b o) = as_none n _ w h k a b (from_empty w h k a b i bs).0 (less n w h k a b a b o)
-turn_good n _ (gone i) p (none w h k a b o) = as_none n _ w h k a b (gone_empty w h k a b i).0 (less n w h k a b a b o)
-turn_good n _ (attach w₁ h₁) p (none w h k a b o) = as_one n _ (started w₁ h₁ k) (first_attach w₁ h₁ w h k a b).0 (start_ok n k w₁ h₁ (proper_size w₁ h₁ p) o.left)
+  pub turn_good : (n : ℕ) (g : Glass) (ev : Event) → proper_event ev ≡ true → Good (suc n) g → Good n (turn known g ev).next
+  turn_good n _ ev p (one u o) = one_turn n u ev p (fewer n u o)
+  turn_good n _ (key c) p (none w h k a b o) = let e = key_empty known few w h k a b c in as_none n _ w h k e.0 e.1 e.2 (less n w h k a b e.0 e.1 o)
+  turn_good n _ (from i bs) p (none w h k a b o) = as_none n _ w h k a b (from_empty known few w h k a b i bs).0 (less n w h k a b a b o)
+  turn_good n _ (gone i) p (none w h k a b o) = as_none n _ w h k a b (gone_empty known few w h k a b i).0 (less n w h k a b a b o)
+  turn_good n _ (attach w₁ h₁) p (none w h k a b o) = as_one n _ (started w₁ h₁ k) (first_attach known few w₁ h₁ w h k a b).0 (start_ok n k w₁ h₁ (proper_size w₁ h₁ p) o.left)
 
-pub few_says : (n : ℕ) (g : Glass) (ev : Event) → Good n g → length (turn detaching g ev).says ≤ 1
-few_says n _ (key c) (one u o) = (key_next u c).3
-few_says n _ (from i bs) (one u o) = elim (cases_eq u.id i) [
-  | inl e ↦ subst (λ (j : ℕ). length (turn detaching (one_glass u) (from j bs)).says ≤ 1) e (from_says u bs)
-  | inr e ↦ (let z = ap length (from_other u i bs e).1 in omega arith)
-]
-few_says n _ (gone i) (one u o) = elim (cases_eq u.id i) [
-  | inl e ↦ subst (λ (j : ℕ). length (turn detaching (one_glass u) (gone j)).says ≤ 1) e (let z = ap length (gone_next u).1 in omega arith)
-  | inr e ↦ (let z = ap length (gone_other u i e).1 in omega arith)
-]
-few_says n _ (attach w h) (one u o) = (attach_next u w h).1
-few_says n _ (key c) (none w h k a b o) = (key_empty w h k a b c).3
-few_says n _ (from i bs) (none w h k a b o) = let z = ap length (from_empty w h k a b i bs).1 in omega arith
-few_says n _ (gone i) (none w h k a b o) = let z = ap length (gone_empty w h k a b i).1 in omega arith
-few_says n _ (attach w₁ h₁) (none w h k a b o) = (first_attach w₁ h₁ w h k a b).1
+  pub few_says : (n : ℕ) (g : Glass) (ev : Event) → Good n g → length (turn known g ev).says ≤ 1
+  few_says n _ (key c) (one u o) = (key_next known few u c).3
+  few_says n _ (from i bs) (one u o) = elim (cases_eq u.id i) [
+    | inl e ↦ subst (λ (j : ℕ). length (turn known (one_glass u) (from j bs)).says ≤ 1) e (from_says known few u bs)
+    | inr e ↦ (let z = ap length (from_other known few u i bs e).1 in omega arith)
+  ]
+  few_says n _ (gone i) (one u o) = elim (cases_eq u.id i) [
+    | inl e ↦ subst (λ (j : ℕ). length (turn known (one_glass u) (gone j)).says ≤ 1) e (let z = ap length (gone_next known few u).1 in omega arith)
+    | inr e ↦ (let z = ap length (gone_other known few u i e).1 in omega arith)
+  ]
+  few_says n _ (attach w h) (one u o) = (attach_next known few u w h).1
+  few_says n _ (key c) (none w h k a b o) = (key_empty known few w h k a b c).3
+  few_says n _ (from i bs) (none w h k a b o) = let z = ap length (from_empty known few w h k a b i bs).1 in omega arith
+  few_says n _ (gone i) (none w h k a b o) = let z = ap length (gone_empty known few w h k a b i).1 in omega arith
+  few_says n _ (attach w₁ h₁) (none w h k a b o) = (first_attach known few w₁ h₁ w h k a b).1
 
--- whoever attaches looks at a window
-pub attach_looks : (n : ℕ) (g : Glass) (w h : ℕ) → Good n g → looks (turn detaching g (attach w h)).next ≡ true
-attach_looks n _ w h (one u o) = ap looks (attach_next u w h).0
-attach_looks n _ w h (none w₁ h₁ k a b o) = ap looks (first_attach w h w₁ h₁ k a b).0
+  -- whoever attaches looks at a window
+  pub attach_looks : (n : ℕ) (g : Glass) (w h : ℕ) → Good n g → looks (turn known g (attach w h)).next ≡ true
+  attach_looks n _ w h (one u o) = ap looks (attach_next known few u w h).0
+  attach_looks n _ w h (none w₁ h₁ k a b o) = ap looks (first_attach known few w h w₁ h₁ k a b).0
 
 -- the view goes along
 same_size : (g g₁ : Glass) (v : View) → g₁.wide ≡ g.wide → g₁.high ≡ g.high → Viewed g v → Viewed g₁ v
@@ -245,29 +246,30 @@ fresh_viewed g w h e f a b =
 wide_of : Glass → ℕ
 wide_of g = g.wide
 
-pub turn_viewed : (n : ℕ) (g : Glass) (v : View) (ev : Event) → proper_event ev ≡ true → Good n g → Viewed g v → Viewed (turn detaching g ev).next (view_at ev v)
-unfolding view_at
-turn_viewed n _ v (key c) p (one u o) w =
-    let k = (key_next u c).2 in same_size (one_glass u) _ v (ap (λ (g : Glass). g.wide) k) (ap (λ (g : Glass). g.high) k) w
-turn_viewed n _ v (from i bs) p (one u o) w = elim (cases_eq u.id i) [
-  | inl e ↦ subst (λ (j : ℕ). Viewed (turn detaching (one_glass u) (from j bs)).next v) e
-      (let k = from_next u bs in same_size (one_glass u) _ v (ap (λ (g : Glass). g.wide) k) (ap (λ (g : Glass). g.high) k) w)
-  | inr e ↦ (let k = (from_other u i bs e).0 in same_size (one_glass u) _ v (ap (λ (g : Glass). g.wide) k) (ap (λ (g : Glass). g.high) k) w)
-]
-turn_viewed n _ v (gone i) p (one u o) w = elim (cases_eq u.id i) [
-  | inl e ↦ subst (λ (j : ℕ). Viewed (turn detaching (one_glass u) (gone j)).next v) e
-      (let k = (gone_next u).0 in same_size (one_glass u) _ v (ap (λ (g : Glass). g.wide) k) (ap (λ (g : Glass). g.high) k) w)
-  | inr e ↦ (let k = (gone_other u i e).0 in same_size (one_glass u) _ v (ap (λ (g : Glass). g.wide) k) (ap (λ (g : Glass). g.high) k) w)
-]
-turn_viewed n _ v (attach a b) p (one u o) w =
-    let k = (attach_next u a b).0 in let q = proper_size a b p in
-    fresh_viewed _ a b (ap (λ (g : Glass). g.wide) k) (ap (λ (g : Glass). g.high) k) (let x = q.some_wide in omega arith) (let x = q.some_high in omega arith)
-turn_viewed n _ v (key c) p (none x y k a b o) w =
-    let e = (key_empty x y k a b c).2 in same_size (empty x y a k b) _ v (ap (λ (g : Glass). g.wide) e) (ap (λ (g : Glass). g.high) e) w
-turn_viewed n _ v (from i bs) p (none x y k a b o) w =
-    let e = (from_empty x y k a b i bs).0 in same_size (empty x y a k b) _ v (ap (λ (g : Glass). g.wide) e) (ap (λ (g : Glass). g.high) e) w
-turn_viewed n _ v (gone i) p (none x y k a b o) w =
-    let e = (gone_empty x y k a b i).0 in same_size (empty x y a k b) _ v (ap (λ (g : Glass). g.wide) e) (ap (λ (g : Glass). g.high) e) w
-turn_viewed n _ v (attach c d) p (none x y k a b o) w =
-    let e = (first_attach c d x y k a b).0 in let q = proper_size c d p in
-    fresh_viewed _ c d (ap (λ (g : Glass). g.wide) e) (ap (λ (g : Glass). g.high) e) (let z = q.some_wide in omega arith) (let z = q.some_high in omega arith)
+module _ (known : ℕ → Bool) (few : (c : ℕ) → (c ≡ 100 → ⊥) → known c ≡ false) where
+  pub turn_viewed : (n : ℕ) (g : Glass) (v : View) (ev : Event) → proper_event ev ≡ true → Good n g → Viewed g v → Viewed (turn known g ev).next (view_at ev v)
+  unfolding view_at
+  turn_viewed n _ v (key c) p (one u o) w =
+      let k = (key_next known few u c).2 in same_size (one_glass u) _ v (ap (λ (g : Glass). g.wide) k) (ap (λ (g : Glass). g.high) k) w
+  turn_viewed n _ v (from i bs) p (one u o) w = elim (cases_eq u.id i) [
+    | inl e ↦ subst (λ (j : ℕ). Viewed (turn known (one_glass u) (from j bs)).next v) e
+        (let k = from_next known few u bs in same_size (one_glass u) _ v (ap (λ (g : Glass). g.wide) k) (ap (λ (g : Glass). g.high) k) w)
+    | inr e ↦ (let k = (from_other known few u i bs e).0 in same_size (one_glass u) _ v (ap (λ (g : Glass). g.wide) k) (ap (λ (g : Glass). g.high) k) w)
+  ]
+  turn_viewed n _ v (gone i) p (one u o) w = elim (cases_eq u.id i) [
+    | inl e ↦ subst (λ (j : ℕ). Viewed (turn known (one_glass u) (gone j)).next v) e
+        (let k = (gone_next known few u).0 in same_size (one_glass u) _ v (ap (λ (g : Glass). g.wide) k) (ap (λ (g : Glass). g.high) k) w)
+    | inr e ↦ (let k = (gone_other known few u i e).0 in same_size (one_glass u) _ v (ap (λ (g : Glass). g.wide) k) (ap (λ (g : Glass). g.high) k) w)
+  ]
+  turn_viewed n _ v (attach a b) p (one u o) w =
+      let k = (attach_next known few u a b).0 in let q = proper_size a b p in
+      fresh_viewed _ a b (ap (λ (g : Glass). g.wide) k) (ap (λ (g : Glass). g.high) k) (let x = q.some_wide in omega arith) (let x = q.some_high in omega arith)
+  turn_viewed n _ v (key c) p (none x y k a b o) w =
+      let e = (key_empty known few x y k a b c).2 in same_size (empty x y a k b) _ v (ap (λ (g : Glass). g.wide) e) (ap (λ (g : Glass). g.high) e) w
+  turn_viewed n _ v (from i bs) p (none x y k a b o) w =
+      let e = (from_empty known few x y k a b i bs).0 in same_size (empty x y a k b) _ v (ap (λ (g : Glass). g.wide) e) (ap (λ (g : Glass). g.high) e) w
+  turn_viewed n _ v (gone i) p (none x y k a b o) w =
+      let e = (gone_empty known few x y k a b i).0 in same_size (empty x y a k b) _ v (ap (λ (g : Glass). g.wide) e) (ap (λ (g : Glass). g.high) e) w
+  turn_viewed n _ v (attach c d) p (none x y k a b o) w =
+      let e = (first_attach known few c d x y k a b).0 in let q = proper_size c d p in
+      fresh_viewed _ c d (ap (λ (g : Glass). g.wide) e) (ap (λ (g : Glass). g.high) e) (let z = q.some_wide in omega arith) (let z = q.some_high in omega arith)

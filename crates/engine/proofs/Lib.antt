@@ -7,6 +7,7 @@ pub mod Rewrites
 pub mod Keyed
 pub mod Core
 pub mod Machine
+pub mod Same
 pub mod Settles
 pub mod Pictures
 pub mod Back

@@ -1,12 +1,12 @@
--- The whole promise of the machine for one window with one pane.
+-- The whole promise of the machine for one window with one pane, where of the keys after the prefix d is known or none.
 use Rattle.std.proofs.Common.{◌≡◌, ℕ, zero, suc, ◌+◌, ◌-◌, ◌*◌, ◌^◌, ◌<◌, ◌≤◌, Bool, true, false, ◌&&◌, eqb, ltb, leb, ◌⊎◌, List, [], ◌∷◌, ◌++◌, length, get_or, take, drop, sym, refl, ap, ◌∙◌, subst, inl, inr, arith}
 use lib.ListN.{length-replicate}
-use Rattle.std.proofs.lemmas.Bool.{and_parts, and_from, cases_Bool, cond-true, cond-false, eq-eqb, ltb-true, or_left}
+use Rattle.std.proofs.lemmas.Bool.{and_parts, and_from, cases_Bool, cond-true, cond-false, eq-eqb, ne_eqb, ltb-true, or_left}
 use Rattle.meaning.specs.Words.{pick, every, so_many}
 use Rattle.meaning.specs.Screen.{Cell, Style, Term, fresh}
 use Rattle.meaning.specs.Bytes.{written}
 use Rattle.meaning.specs.Panes.{Glass, Event, Pane, turn, at_first}
-use Rattle.meaning.specs.Promise.{Engine, ToldIt, comes, next, Step, wait, detaching, proper_event, all_small, Steady, Right, Whole}
+use Rattle.meaning.specs.Promise.{Engine, ToldIt, comes, next, Act, Step, wait, core, detaching, proper_event, all_small, Steady, Right, Whole}
 use Rattle.meaning.specs.Leaving.{glass_after, Through, Any, Silent, Seen, ComesBack}
 use Rattle.meaning.specs.Laws.{colour, fine_style}
 use Rattle.meaning.proofs.Sound.{Sound, SoundFields}
@@ -17,13 +17,15 @@ use Rattle.header.specs.Header.{InRange}
 use Rattle.render_law.proofs.Law.{writer_law}
 use Rattle.render_law.proofs.Rows.{rows_of_cells, length_cells}
 use Rattle.engine.specs.Areas.{part, put}
-use Rattle.engine.specs.State.{View, State, state, fresh_view, screen_of, going, view_at, said_or_going, proper_told, taking, kept, machine_by}
+use Rattle.engine.specs.State.{View, State, state, fresh_view, screen_of, going, view_at, said_or_going, proper_told, taking, stepped, kept, machine_by, machine_of}
 use Rattle.engine.specs.Memory.{memory_size, memory_fits, decode, encode, with_cells, with_header}
+use Rattle.engine.specs.Core.{core_machine}
 use Rattle.engine.specs.Detaching.{detaching_machine}
 use Rattle.engine.proofs.Areas.{length_put, small_put}
 use Rattle.engine.proofs.Maps.{placed}
 use Rattle.engine.proofs.Start.{all_zero}
 use Rattle.engine.proofs.Core.{One, one_glass, empty}
+use Rattle.engine.proofs.Same.{same_right}
 use Rattle.engine.proofs.Machine.{Viewed, Holds, EventRuns, one_saying, all_right, all_through, all_silent, attach_seen}
 use Rattle.engine.proofs.Pictures.{PaneOk, small_cells, every_fine}
 use Rattle.engine.proofs.Back.{Kept, Sized, back_one, back_empty, fits_one, fits_empty, long_one, long_empty}
@@ -104,22 +106,26 @@ small_encode : (m : List ℕ) (s : State) → Small m → Small (encode m s)
 unfolding Small encode
 small_encode m s e = small_put _ 0 _ (small_header_in _ s.glass.panes (small_put _ _ _ (small_cells_in m s.glass.panes e)))
 
-pub steady_detaching : Steady detaching_machine
-unfolding Steady detaching_machine machine_by all_small Small
-steady_detaching =
-    (let e = length-replicate {A = ℕ} memory_size 0 in let k = placed in omega arith, all_zero memory_size, λ m ev. step m ev (cases_Bool (memory_fits m && proper_told ev)))
-  where
-    after : List ℕ → ToldIt → Step
-    after m ev = pick (memory_fits m && proper_told ev) (kept encode m (taking detaching (decode m) ev)) (record { memory = m; act = wait })
+-- a step, or none, over memory
+abbrev after : Bool → List ℕ → State → Act → Step
+after b m s a = pick b (record { memory = encode m s; act = a }) (record { memory = m; act = wait })
 
-    step : (m : List ℕ) (ev : ToldIt) → ((memory_fits m && proper_told ev) ≡ true) ⊎ ((memory_fits m && proper_told ev) ≡ false)
-        → (length (after m ev).memory ≡ length m) × (every (λ x. ltb x (2 ^ 64)) m ≡ true → every (λ x. ltb x (2 ^ 64)) (after m ev).memory ≡ true)
-    step m ev (inl f) =
-        let e = cond-true (memory_fits m && proper_told ev) (kept encode m (taking detaching (decode m) ev)) (record { memory = m; act = wait }) f in
-        (ap (λ (s : Step). length s.memory) e ∙ length_encode m _, λ h. ap (λ (s : Step). every (λ x. ltb x (2 ^ 64)) s.memory) e ∙ small_encode m _ h)
-    step m ev (inr f) =
-        let e = cond-false (memory_fits m && proper_told ev) (kept encode m (taking detaching (decode m) ev)) (record { memory = m; act = wait }) f in
-        (ap (λ (s : Step). length s.memory) e, λ h. ap (λ (s : Step). every (λ x. ltb x (2 ^ 64)) s.memory) e ∙ h)
+keeps : (b : Bool) (m : List ℕ) (s : State) (a : Act)
+    → (length (after b m s a).memory ≡ length m) × (every (λ x. ltb x (2 ^ 64)) m ≡ true → every (λ x. ltb x (2 ^ 64)) (after b m s a).memory ≡ true)
+unfolding Small
+keeps true m s a = (length_encode m s, small_encode m s)
+keeps false m s a = (refl, λ h. h)
+
+start_long : length (so_many {A = ℕ} memory_size 0) ≤ 262144
+start_long = let e = length-replicate {A = ℕ} memory_size 0 in let k = placed in omega arith
+
+steady_detaching : Steady detaching_machine
+unfolding Steady detaching_machine machine_by all_small
+steady_detaching = (start_long, all_zero memory_size, λ m ev. keeps (memory_fits m && proper_told ev) m (taking detaching (decode m) ev).state (taking detaching (decode m) ev).act)
+
+steady_core : Steady core_machine
+unfolding Steady core_machine machine_of all_small
+steady_core = (start_long, all_zero memory_size, λ m ev. keeps (memory_fits m) m (stepped core (decode m) ev).state (stepped core (decode m) ev).act)
 
 -- the start
 zero_first : (n : ℕ) → get_or (take 16 (so_many {A = ℕ} n 0)) 0 0 ≡ 0
@@ -138,15 +144,6 @@ start_is = cond-true _ _ _ (eq-eqb _ _ (zero_first memory_size))
 first_good : (n : ℕ) → n ≤ 4294967296 → Good n at_first
 first_good n h = none 1 1 1 false false (record { is = refl; some_wide = omega arith; wide = omega arith; some_high = omega arith; high = omega arith; left = omega arith })
 
--- the machine's own way with what comes
-next_is : (n : ℕ) (g : Glass) (v : View) → Good n g → taking detaching (state g v) next ≡ going g v
-unfolding taking
-next_is n g v o = refl
-
-comes_is : (g : Glass) (v : View) (ev : Event) → taking detaching (state g v) (comes ev) ≡ said_or_going (turn detaching g ev).next (view_at ev v) (turn detaching g ev).says
-unfolding taking
-comes_is g v ev = refl
-
 abbrev Room : List ℕ → Type 0
 Room m = length m ≡ memory_size
 
@@ -156,33 +153,67 @@ room n m g v r o w = length_encode m (state g v) ∙ r
 zeros : List ℕ
 zeros = so_many memory_size 0
 
-runs : EventRuns (taking detaching) zeros memory_fits decode encode Good Room pictured room fit back next_is detaching
-runs = one_saying (taking detaching) zeros memory_fits decode encode Good Room pictured room fit back next_is detaching turn_good turn_viewed few_says comes_is
+module _ (known : ℕ → Bool) (few : (c : ℕ) → (c ≡ 100 → ⊥) → known c ≡ false) where
+  -- the machine's own way with what comes
+  next_is : (n : ℕ) (g : Glass) (v : View) → Good n g → taking known (state g v) next ≡ going g v
+  unfolding taking
+  next_is n g v o = refl
 
-abbrev Held : ℕ → List ℕ → Glass → View → Type 0
-Held = Holds (taking detaching) zeros memory_fits decode encode Good Room pictured room fit back next_is
+  comes_is : (g : Glass) (v : View) (ev : Event) → taking known (state g v) (comes ev) ≡ said_or_going (turn known g ev).next (view_at ev v) (turn known g ev).says
+  unfolding taking
+  comes_is g v ev = refl
 
-start_holds : (n : ℕ) → n ≤ 4294967296 → Held n zeros at_first (fresh_view 1 1)
-unfolding zeros
-start_holds n l = record { does_fit = start_fits; is = start_is; has_room = length-replicate {A = ℕ} memory_size 0; good = first_good n l; viewed = fresh_viewed at_first 1 1 refl refl (omega arith) (omega arith) }
+  event_runs : EventRuns (taking known) zeros memory_fits decode encode Good Room pictured room fit back next_is known
+  event_runs = one_saying (taking known) zeros memory_fits decode encode Good Room pictured room fit back next_is known (turn_good known few) (turn_viewed known few) (few_says known few) comes_is
+
+  abbrev Held : ℕ → List ℕ → Glass → View → Type 0
+  Held = Holds (taking known) zeros memory_fits decode encode Good Room pictured room fit back next_is
+
+  start_holds : (n : ℕ) → n ≤ 4294967296 → Held n zeros at_first (fresh_view 1 1)
+  unfolding zeros
+  start_holds n l = record { does_fit = start_fits; is = start_is; has_room = length-replicate {A = ℕ} memory_size 0; good = first_good n l; viewed = fresh_viewed at_first 1 1 refl refl (omega arith) (omega arith) }
+
+  abbrev engine : Engine
+  engine = machine_by (taking known) zeros memory_fits decode encode
+
+  all_keep : (evs : List Event) → length evs ≤ 4294967296 → every proper_event evs ≡ true → Right known engine zeros at_first (fresh 1 1) evs
+  all_keep evs l p =
+      all_right (taking known) zeros memory_fits decode encode Good Room pictured room fit back next_is known (turn_good known few) (turn_viewed known few) event_runs
+      evs zeros at_first (fresh_view 1 1) (fresh 1 1) (sym (writer_law.begins 1 1)) p (start_holds (length evs) l)
+
+  -- after any time away
+  all_come_back : ComesBack known engine
+  unfolding ComesBack machine_by
+  all_come_back before away w h l p q r y =
+      subst (λ (t : Term). Through Any known engine zeros at_first t before (λ m g u. Through Silent known engine m g u away (Seen known engine w h))) (writer_law.begins 1 1)
+      (all_through (taking known) zeros memory_fits decode encode Good Room pictured room fit back next_is known (turn_good known few) (turn_viewed known few) event_runs
+      before (length before + (length away + 1)) (length away + 1) zeros at_first (fresh_view 1 1) _ p refl (start_holds _ (omega arith))
+      (λ m v o. all_silent (taking known) zeros memory_fits decode encode Good Room pictured room fit back next_is known (turn_good known few) (turn_viewed known few) event_runs
+      away (length away + 1) 1 m (glass_after known at_first before) v _ q y refl o
+      (λ m₁ v₁ o₁. attach_seen (taking known) zeros memory_fits decode encode Good Room pictured room fit back next_is known (turn_good known few) (turn_viewed known few) event_runs
+      0 m₁ (glass_after known (glass_after known at_first before) away) v₁ w h r o₁ (attach_looks known few 1 _ w h o₁.good))))
+
+few_detaching : (c : ℕ) → (c ≡ 100 → ⊥) → detaching c ≡ false
+few_detaching c h = ne_eqb c 100 h
 
 pub whole_detaching : Whole detaching detaching_machine
 unfolding Whole detaching_machine zeros machine_by
-whole_detaching = (
-  steady_detaching,
-  λ evs l p.
-      all_right (taking detaching) zeros memory_fits decode encode Good Room pictured room fit back next_is detaching turn_good turn_viewed runs
-      evs zeros at_first (fresh_view 1 1) (fresh 1 1) (sym (writer_law.begins 1 1)) p (start_holds (length evs) l),
-)
+whole_detaching = (steady_detaching, all_keep detaching few_detaching)
 
--- after any time away
 pub comes_back : ComesBack detaching detaching_machine
-unfolding ComesBack detaching_machine zeros machine_by
-comes_back before away w h l p q r y =
-    subst (λ (t : Term). Through Any detaching detaching_machine zeros at_first t before (λ m g u. Through Silent detaching detaching_machine m g u away (Seen detaching detaching_machine w h))) (writer_law.begins 1 1)
-    (all_through (taking detaching) zeros memory_fits decode encode Good Room pictured room fit back next_is detaching turn_good turn_viewed runs
-    before (length before + (length away + 1)) (length away + 1) zeros at_first (fresh_view 1 1) _ p refl (start_holds _ (omega arith))
-    (λ m v o. all_silent (taking detaching) zeros memory_fits decode encode Good Room pictured room fit back next_is detaching turn_good turn_viewed runs
-    away (length away + 1) 1 m (glass_after detaching at_first before) v _ q y refl o
-    (λ m₁ v₁ o₁. attach_seen (taking detaching) zeros memory_fits decode encode Good Room pictured room fit back next_is detaching turn_good turn_viewed runs
-    0 m₁ (glass_after detaching (glass_after detaching at_first before) away) v₁ w h r o₁ (attach_looks 1 _ w h o₁.good))))
+unfolding detaching_machine zeros
+comes_back = all_come_back detaching few_detaching
+
+fit_then : {A : Type 0} (b : Bool) (x y : A) → pick (b && true) x y ≡ pick b x y
+fit_then true x y = refl
+fit_then false x y = refl
+
+-- where no key is known, and the machine keeps its state also when it is told what is not proper
+same_proper : (m : List ℕ) (told : ToldIt) → proper_told told ≡ true → (machine_by (taking core) zeros memory_fits decode encode).step m told ≡ core_machine.step m told
+unfolding zeros core_machine machine_of machine_by stepped taking proper_told
+same_proper m next p = fit_then (memory_fits m) _ _
+same_proper m (comes ev) p = rw p (fit_then (memory_fits m) _ _)
+
+pub whole_core : Whole core core_machine
+unfolding Whole core_machine machine_of zeros
+whole_core = (steady_core, λ evs l p. same_right (machine_by (taking core) zeros memory_fits decode encode) core_machine same_proper core evs zeros at_first (fresh 1 1) p (all_keep core (λ c h. refl) evs l p))

@@ -1,5 +1,5 @@
 use Rattle.engine.proofs.whole_core_stands.Goals as goal
-use Rattle.engine.proofs.Whole.{whole-core}
+use Rattle.engine.proofs.Whole.{whole_core}
 
 pub returns : goal.returns
-returns c = whole-core
+returns c = whole_core

@@ -7,4 +7,4 @@ pub returns-then-n-lt10 : goal.returns-then-n-lt10
 returns-then-n-lt10 t c = made_same _ _ _ _ _ (sym (decimal_digit _ c.if-n-lt10.true)) c.add.ensures
 
 pub returns : goal.returns
-returns t c = made_same _ _ _ _ _ (sym (decimal_step _ c.if-n-lt10.false c.ranges.n.fits)) (made_then _ _ _ _ _ _ c.in-ok-print-number.ensures c.add-2.ensures)
+returns t c = made_same _ _ _ _ _ (sym (decimal_step _ c.if-n-lt10.false c.ranges.n.fits)) (made_then _ _ _ _ _ _ c.in_ok-print_number.ensures c.add-2.ensures)

@@ -17,5 +17,5 @@ returns-in-Some c =
 pub returns-in-None : goal.returns-in-None
 returns-in-None c = (later_found c.args.memory.now c.if-memory-ne238304.false c.in-1.is).0 ∙ c.in-None.ensures
 
-pub returns-in-default : goal.returns-in-default
-returns-in-default c = not_kind c.args.memory.now (λ e. omega arith) (λ e. omega arith)
+pub returns-in_default : goal.returns-in_default
+returns-in_default c = not_kind c.args.memory.now (λ e. omega arith) (λ e. omega arith)

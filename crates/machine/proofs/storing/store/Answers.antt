@@ -15,13 +15,13 @@ returns-then-memory-ne238304 c = record {
 pub returns : goal.returns
 returns c =
     let m = c.args.memory.now in
-    let mid = c.store-pane.new.memory in
-    let hs = c.copy-from-slice.new.self in
+    let mid = c.store_pane.new.memory in
+    let hs = c.copy_from_slice.new.self in
     let lm : length mid ≡ 238304 = omega arith in
     let lh : length hs ≡ 16 = omega arith in
     record {
       told = sym (eq-eqb _ _ (c.if-memory-ne238304.false ∙ sym placed.size));
-      done = λ _. stored_is c.args.x m mid hs c.if-memory-ne238304.false lm lh (c.store-pane.ensures.done m) c.store-pane.ensures.above
-          (c.copy-from-slice.ensures.after ∙ c.head-numbers.ensures m) (small_from_fits _ c.type-inv.memory);
+      done = λ _. stored_is c.args.x m mid hs c.if-memory-ne238304.false lm lh (c.store_pane.ensures.done m) c.store_pane.ensures.above
+          (c.copy_from_slice.ensures.after ∙ c.head_numbers.ensures m) (small_from_fits _ c.type_inv.memory);
       kept = λ e. absurd (search rules);
     }

@@ -11,6 +11,6 @@ returns-in-Some c =
     let l : length hs ≡ 64 = omega arith in
     let ok : c.store.result ≡ true = c.store.ensures.told ∙ eq-eqb _ 64 (length_part m 256 64 (omega arith)) in
     record {
-      done = header_placed m hs c.args.pane c.in-Some.p c.requires l c.in-Some.is (c.store.ensures.done ok) (small_from_fits _ c.type-inv.memory);
+      done = header_placed m hs c.args.pane c.in-Some.p c.requires l c.in-Some.is (c.store.ensures.done ok) (small_from_fits _ c.type_inv.memory);
       above = λ b n h. part_lent_above m 256 64 hs b n (omega arith) l h;
     }

@@ -17,7 +17,7 @@ returns-then-out-lt65536 c = record {
 
 pub returns : goal.returns
 returns c = record {
-  taken = λ _ _. c.take-end.ensures;
+  taken = λ _ _. c.take_end.ensures;
   other_size = λ n. absurd (n c.if-memory-ne238304.false);
   short_row = λ l. absurd (omega arith);
 }

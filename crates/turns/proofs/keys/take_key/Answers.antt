@@ -19,4 +19,4 @@ pub returns : goal.returns
 returns c =
     let x = c.args.x in
     let m = c.args.memory.now in
-    key_says x x _ m _ _ _ c.args.c _ (as_it_is x) (on_plain (glass_of x m) c.args.c (not-false _ c.if-not-x.false) c.if-x.false (ne_eqb _ _ c.if-c-eq1.false)) c.say-key.ensures
+    key_says x x _ m _ _ _ c.args.c _ (as_it_is x) (on_plain (glass_of x m) c.args.c (not-false _ c.if-not-x.false) c.if-x.false (ne_eqb _ _ c.if-c-eq1.false)) c.say_key.ensures
