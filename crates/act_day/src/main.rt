@@ -88,8 +88,8 @@ fn bad(heap: Global, day: BadDay) -> anyhow::Error {
     let BadDay { line, fault } = day;
     let what = message(fault);
     match format!(in heap; "line {line}: {what}") {
-        Ok(text) => text.into(),
-        Err(_) => "out of memory".into(),
+        Ok(text) => anyhow!(text),
+        Err(_) => anyhow!("out of memory"),
     }
 }
 

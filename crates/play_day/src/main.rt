@@ -23,8 +23,8 @@ fn bad(heap: Global, day: BadDay) -> anyhow::Error {
     let BadDay { line, fault } = day;
     let what = message(fault);
     match format!(in heap; "line {line}: {what}") {
-        Ok(text) => text.into(),
-        Err(_) => "out of memory".into(),
+        Ok(text) => anyhow!(text),
+        Err(_) => anyhow!("out of memory"),
     }
 }
 
@@ -32,7 +32,7 @@ fn bad(heap: Global, day: BadDay) -> anyhow::Error {
 fn comes(player: &mut Player, heap: Global, coming: Coming, bytes: &[u8]) -> anyhow::Result<bool> {
     match player.comes(heap, coming, bytes) {
         Ok(over) => Ok(over),
-        Err(fault) => Err(says(fault).into()),
+        Err(fault) => Err(anyhow!(says(fault))),
     }
 }
 
@@ -81,7 +81,7 @@ fn run(rt: &HostRuntime) -> anyhow::Result<()> {
     };
     let mut player = match Player::new(heap) {
         Ok(player) => player,
-        Err(fault) => return Err(says(fault).into()),
+        Err(fault) => return Err(anyhow!(says(fault))),
     };
     for l in day.iter() {
         if line(rt, &mut player, l)? {

@@ -18,11 +18,11 @@ fn size(rt: &HostRuntime) -> anyhow::Result<Size> {
     let mut args = env::args(rt)?;
     let _program = args.next();
     let (Some(columns), Some(rows), None) = (args.next(), args.next(), args.next()) else {
-        return Err(USAGE.into());
+        return Err(anyhow!(USAGE));
     };
     match size_of(columns.as_str(), rows.as_str()) {
         Some(size) => Ok(size),
-        None => Err(USAGE.into()),
+        None => Err(anyhow!(USAGE)),
     }
 }
 

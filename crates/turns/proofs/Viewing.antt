@@ -62,4 +62,4 @@ pub after_cells : (m vs : List ℕ) (x : Machine) → length m ≡ memory_size �
     → encode (over m screen_at vs) (state_of x (over m screen_at vs)) ≡ encode m (viewed_so x m vs x.pen)
 after_cells m vs x l e =
     ap (encode (over m screen_at vs)) (state_after m vs x l e)
-    ∙ encode_screen m vs (viewed_so x m vs x.pen) l (let f = few_cells x.size in omega arith) refl (length_pane m x.pane l)
+    ∙ encode_screen m vs (viewed_so x m vs x.pen) l (let f = few_cells x.size in omega arith) (omega arith) (length_pane m x.pane l)

@@ -19,7 +19,7 @@ returns c = λ i n p.
     let x : length (take (c.cells-n.result - 0) c.args.row.now) ≡ c.args.size.high * c.args.size.wide = length-take (c.cells-n.result - 0) c.args.row.now ∙ omega arith in
     let y : length (take ((38304 + c.cells-k.result) - 38304) (drop 38304 m)) ≡ s.high * s.wide =
     length-take ((38304 + c.cells-k.result) - 38304) (drop 38304 m) ∙ (let d = length-drop 38304 m in omega arith) in
-    let t : c.draw-pane.result ≡ true = c.draw-pane.ensures.told ∙ and_from _ _ (eq-eqb _ _ x) (eq-eqb _ _ y) in
-    let l = c.draw-pane.auto.picture in
-    take_at c.draw-pane.new.picture _ _ (l ∙ x)
-    ∙ c.draw-pane.ensures.numbers t i n (terminal_in c.args.pane.now m) p (ap (rows_of s.wide s.high) (sym (lent_cells m (s.high * s.wide) c.cells-k.result b)))
+    let t : c.draw_pane.result ≡ true = c.draw_pane.ensures.told ∙ and_from _ _ (eq-eqb _ _ x) (eq-eqb _ _ y) in
+    let l = c.draw_pane.auto.picture in
+    take_at c.draw_pane.new.picture _ _ (l ∙ x)
+    ∙ c.draw_pane.ensures.numbers t i n (terminal_in c.args.pane.now m) p (ap (rows_of s.wide s.high) (sym (lent_cells m (s.high * s.wide) c.cells-k.result b)))

@@ -9,23 +9,23 @@ use Rattle.live.proofs.Sized.{lent_long, lent_on}
 use Rattle.live.proofs.Looking.{first_does}
 use Rattle.live.proofs.sizes.attach_first.Goals as goal
 
-pub returns-in-default : goal.returns-in-default
-returns-in-default c = λ ys.
-    absurd (both_ways _ c.in-default.ensures.0 (lent_on c.args.memory.now c.place-of-place.result c.cells-n.result c.requires.memory c.cells-n.ensures.0))
+pub returns-in_default : goal.returns-in_default
+returns-in_default c = λ ys.
+    absurd (both_ways _ c.in_default.ensures.0 (lent_on c.args.memory.now c.place_of-place.result c.cells-n.result c.requires.memory c.cells-n.ensures.0))
 
 pub returns : goal.returns
 returns c = λ ys.
     let m = c.args.memory.now in
-    let s = c.place-of-place.result in
+    let s = c.place_of-place.result in
     let n = c.cells-n.result in
     let t = c.in-Some.terminal in
     let cs = c.start.new.cells in
-    let w = c.place-of-place.ensures.wide in
-    let h = c.place-of-place.ensures.high in
+    let w = c.place_of-place.ensures.wide in
+    let h = c.place_of-place.ensures.high in
     let e = c.in-Some.ensures in
     let lc : length cs ≡ n = c.start.auto.cells ∙ lent_long m s n c.requires.memory c.cells-n.ensures.0 in
-    first_does c.args.x c.looked_at.result c.args.size _ m _ c.clear-view.new.memory c.store.new.memory cs ys c.pane-and-size.result c.requires.memory c.requires.none c.looked_at.ensures refl
-    (lent_over m 38304 _ cs (omega arith)) c.clear-view.ensures (stored_done c.looked_at.result c.clear-view.new.memory _ _ c.store.ensures (omega arith))
+    first_does c.args.x c.looked_at.result c.args.size _ m _ c.clear_view.new.memory c.store.new.memory cs ys c.pane_and_size.result c.requires.memory c.requires.none c.looked_at.ensures refl
+    (lent_over m 38304 _ cs (omega arith)) c.clear_view.ensures (stored_done c.looked_at.result c.clear_view.new.memory _ _ c.store.ensures (omega arith))
     (lc ∙ (c.cells-n.ensures.0 ∙ sym (ap (λ (z : Size). z.high * z.wide) e.1)))
     (e.2 [] ∙ (λ i. fresh (w i) (h i)))
-    (c.pane-and-size.ensures ∙ (λ i. 65536 * c.args.x.next + 256 * w i + h i))
+    (c.pane_and_size.ensures ∙ (λ i. 65536 * c.args.x.next + 256 * w i + h i))

@@ -11,5 +11,5 @@ returns c =
     let e = c.cells-n.ensures.0 in
     let l = lent_long m s c.cells-n.result c.requires.memory e in
     fit_done t m _ _ s c.cells-n.result c.resize.result c.resize.new.self c.resize.new.new c.requires.memory e
-    (copied_cells m c.copy-from-slice.new.self _ _ c.cells-k.result c.requires.memory c.cells-k.ensures.0 (few_cells t.size) c.copy-from-slice.ensures.after)
+    (copied_cells m c.copy_from_slice.new.self _ _ c.cells-k.result c.requires.memory c.cells-k.ensures.0 (few_cells t.size) c.copy_from_slice.ensures.after)
     l (c.resize.auto.new ∙ l) c.resize.ensures

@@ -1,4 +1,4 @@
 use Rattle.live.proofs.sizes.take_size.Goals as goal
 
 pub returns-in-None : goal.returns-in-None
-returns-in-None c = c.attach-first.ensures c.args.out.now
+returns-in-None c = c.attach_first.ensures c.args.out.now

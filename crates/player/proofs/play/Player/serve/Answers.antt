@@ -3,8 +3,8 @@ use Rattle.player.proofs.play.Player.serve.Goals as goal
 
 pub returns-in-Waits : goal.returns-in-Waits
 returns-in-Waits c =
-    served_so _ _ c.args.self.now _ _ _ _ _ _ _ _ c.clear.ensures c.as-mut-slice-memory.ensures.value c.as-mut-slice-out.ensures.value c.serve.auto.memory c.in-Waits.is c.in-ok-serve.ensures
+    served_so _ _ c.args.self.now _ _ _ _ _ _ _ _ c.clear.ensures c.as_mut_slice-memory.ensures.value c.as_mut_slice-out.ensures.value c.serve.auto.memory c.in-Waits.is c.in_ok-serve.ensures
 
 pub returns-in-Over : goal.returns-in-Over
 returns-in-Over c =
-    served_so _ _ c.args.self.now _ _ _ _ _ _ _ _ c.clear.ensures c.as-mut-slice-memory.ensures.value c.as-mut-slice-out.ensures.value c.serve.auto.memory c.in-Over.is c.in-ok-serve.ensures
+    served_so _ _ c.args.self.now _ _ _ _ _ _ _ _ c.clear.ensures c.as_mut_slice-memory.ensures.value c.as_mut_slice-out.ensures.value c.serve.auto.memory c.in-Over.is c.in_ok-serve.ensures
