@@ -1,5 +1,5 @@
 -- Which line it is: the tests of a line, one after the other.
-use Rattle.std.proofs.Common.{◌≡◌, ℕ, ◌+◌, ◌<◌, eqb, ◌≤◌, Bool, true, false, cond, ◌&&◌, List, length, get_or, take, drop, Ok, Err, codes, Decides, Result, sym, ap, ◌∙◌, subst}
+use Rattle.std.proofs.Common.{◌≡◌, ℕ, ◌+◌, ◌<◌, eqb, ◌≤◌, Bool, true, false, cond, ◌&&◌, List, length, get_or, take, drop, Ok, Err, codes, Result, sym, ap, ◌∙◌, subst}
 use Rattle.std.specs.Cmp.Lexicographic.{pointwise}
 use Rattle.std.specs.Str.{bytes_eq}
 use Rattle.std.proofs.lemmas.Slice.Eq.{slice_eq-Decides, bytes_eq-Decides}

@@ -1,4 +1,6 @@
 // Reading days, what comes, and printing acts, what the machine does; the programs over files share it.
+#![tactic(auto)]
+
 mod acts;
 mod day;
 mod fault;

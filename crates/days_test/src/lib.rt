@@ -98,7 +98,7 @@ mod tests {
         assert!(rt; matches!(read_line(heap, b"# show")?, Line::Nothing));
         if let Line::From(pane, bytes) = read_line(heap, b"from 7 \"\\e[m\"")? {
             assert_eq!(rt; pane, 7);
-            assert_eq!(rt; bytes.as_slice(), b"\x1b[m");
+            assert_eq!(rt; bytes.as_slice(), b"\x1b[m".as_slice());
             Ok(())
         } else {
             Err(Fail::new("from"))

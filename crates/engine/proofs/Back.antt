@@ -1,26 +1,24 @@
 -- A state that has been put into memory is found there again.
-use Rattle.std.proofs.Common.{◌≡◌, ℕ, suc, ◌+◌, ◌-◌, ◌*◌, ◌/◌, ◌%◌, ◌^◌, ◌<◌, ◌≤◌, Bool, true, false, ◌&&◌, eqb, ltb, leb, List, [], ◌∷◌, ◌++◌, length, get_or, take, drop, sym, refl, ap, ◌∙◌, subst, mul-le-mul_right, mul-le-mul, arith}
-use Rattle.std.proofs.lemmas.Bool.{and_from, eq-eqb, eqb-true, and_parts, lt-ltb, le-leb, or_right}
+use Rattle.std.proofs.Common.{◌≡◌, ℕ, ◌*◌, ◌^◌, ◌<◌, ◌≤◌, Bool, true, false, eqb, ltb, List, [], length, get_or, take, drop, sym, refl, ap, ◌∙◌, subst, mul-le-mul, arith}
+use Rattle.std.proofs.lemmas.Bool.{and_from, eq-eqb, eqb-true, and_parts, lt-ltb, le-leb}
 use Rattle.std.proofs.lemmas.Bool.Decides.{Decides-ltb}
 use Rattle.meaning.proofs.Edits.{decides_every}
-use Rattle.meaning.specs.Words.{pick, every}
+use Rattle.meaning.specs.Words.{every}
 use Rattle.meaning.specs.Screen.{Cell, Term, with_rows, with_answer}
 use Rattle.meaning.specs.Panes.{Glass}
 use Rattle.meaning.specs.Promise.{all_small}
-use Rattle.grid.specs.Cells.{packed, unpacked, style_of, rows_of, cells_of}
+use Rattle.grid.specs.Cells.{style_of, rows_of, cells_of}
 use Rattle.grid.specs.declared.cell.Rendition.{Rendition}
 use Rattle.grid.proofs.Codes.{unpacked_packed}
-use Rattle.header.specs.Header.{yes, bit, header_fits, term_from, header_of, InRange}
+use Rattle.header.specs.Header.{yes, bit, header_fits, header_of, InRange}
 use Rattle.header.proofs.Laws.{loads_back}
-use Rattle.render.specs.declared.pen.Pen.{Pen}
 use Rattle.render.specs.Pens.{rendition_of}
-use Rattle.render_law.specs.Law.{Fits}
-use Rattle.engine.specs.Areas.{part, over}
-use Rattle.engine.specs.State.{View, State, state}
+use Rattle.engine.specs.Areas.{part}
+use Rattle.engine.specs.State.{View, state}
 use Rattle.engine.specs.Memory.{memory_size, header_at, screen_at, cells_at, head_fits, memory_fits, decode, encode, head_of, glass_from, view_from, pen_from, terminal_from, rendition_number, has_pane, pane_number}
 use Rattle.engine.proofs.Core.{One, one_glass, empty}
 use Rattle.engine.proofs.Machine.{Viewed}
-use Rattle.engine.proofs.Maps.{Found, FoundTwo, all_areas, two_areas, all_found, two_found, all_put, two_put}
+use Rattle.engine.proofs.Maps.{Found, FoundTwo, all_found, two_found, all_put, two_put}
 
 yes_bit : (b : Bool) → yes (bit b) ≡ b
 yes_bit true = refl

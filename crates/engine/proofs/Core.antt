@@ -1,10 +1,10 @@
 -- The plain glass with no key after the prefix known, or d alone: it has one window with one pane, or none; what each thing that comes does to it.
-use Rattle.std.proofs.Common.{◌≡◌, ℕ, zero, suc, ◌+◌, ◌-◌, ◌<◌, ◌≤◌, Bool, true, false, not, ◌&&◌, eqb, ◌⊎◌, List, [], ◌∷◌, ◌++◌, length, sym, refl, ap, ◌∙◌, subst, inl, inr, arith}
-use Rattle.std.proofs.lemmas.Bool.{eq-eqb, ne_eqb, cases_Bool, cases_eq, eqb-true}
-use Rattle.meaning.specs.Words.{pick, none_of, put_at, so_many}
-use Rattle.meaning.specs.Screen.{Term, with_answer, fresh, fitted, blank_row}
+use Rattle.std.proofs.Common.{◌≡◌, ℕ, suc, ◌-◌, ◌≤◌, Bool, true, false, eqb, ◌⊎◌, List, [], ◌∷◌, length, sym, refl, ap, ◌∙◌, subst, inl, inr, arith}
+use Rattle.std.proofs.lemmas.Bool.{eq-eqb, ne_eqb, cases_Bool, cases_eq}
+use Rattle.meaning.specs.Words.{pick, none_of}
+use Rattle.meaning.specs.Screen.{Term, with_answer, fresh, fitted}
 use Rattle.meaning.specs.Bytes.{written}
-use Rattle.meaning.specs.Panes.{Glass, key, from, gone, attach, Says, Turn, send, start, sized, over, turn, fit_places, settled, places, pane, Window, Pane, Rect, rect, window_at, pane_wide, pane_high, as_large, on_bytes, told, without, ids, gone_before}
+use Rattle.meaning.specs.Panes.{Glass, key, from, gone, attach, Turn, send, over, turn, fit_places, settled, places, pane, Rect, rect, pane_wide, pane_high, as_large, on_bytes, without, ids, gone_before}
 use Rattle.engine.proofs.Keyed.{on_unseen, on_prefix, on_plain, on_again, on_leave, on_other}
 
 -- one window with one pane

@@ -1,19 +1,18 @@
 -- The states that can come about: one window with one pane, or none. Every thing that comes keeps them so.
-use Rattle.std.proofs.Common.{◌≡◌, ℕ, zero, suc, ◌+◌, ◌-◌, ◌*◌, ◌^◌, ◌<◌, ◌≤◌, max, Bool, true, false, not, ◌&&◌, eqb, ltb, leb, ◌⊎◌, List, [], ◌∷◌, ◌++◌, length, sym, refl, ap, ◌∙◌, subst, inl, inr, arith}
+use Rattle.std.proofs.Common.{◌≡◌, ℕ, zero, suc, ◌+◌, ◌-◌, ◌*◌, ◌^◌, ◌<◌, ◌≤◌, Bool, true, false, ◌&&◌, eqb, ltb, leb, ◌⊎◌, List, [], length, sym, refl, ap, ◌∙◌, subst, inl, inr, arith}
 use lib.ListN.{length-replicate}
-use Rattle.std.proofs.lemmas.Bool.{and_parts, and_from, cases_Bool, cases_eq, eqb-true, ltb-true, leb-true, cond-true, cond-false}
+use Rattle.std.proofs.lemmas.Bool.{and_parts, cases_Bool, cases_eq, eqb-true, leb-true, cond-true, cond-false}
 use Rattle.std.proofs.ByRecursion.{All-weaker}
-use Rattle.meaning.specs.Words.{pick, every, so_many, larger}
+use Rattle.meaning.specs.Words.{every, so_many}
 use Rattle.meaning.specs.Screen.{Term, Reading, ground_state, escape, sequence, passed, string, string_end, fresh, fitted, with_answer}
 use Rattle.meaning.specs.Bytes.{written}
 use Rattle.meaning.specs.Panes.{Glass, Event, key, from, gone, attach, turn, pane_wide, pane_high, as_large}
 use Rattle.meaning.specs.Promise.{proper_event}
-use Rattle.meaning.proofs.Sound.{Sound, SoundFields, AsWide, sound_written, sound_fitted, sound_fresh}
+use Rattle.meaning.proofs.Sound.{Sound, sound_written, sound_fitted, sound_fresh}
 use Rattle.meaning.proofs.Readings.{Short, Held, held_written}
 use Rattle.meaning.proofs.Drawable.{Fine, fine_written, fine_fresh, fine_fitted, fine_answer}
 use Rattle.grid.specs.Cells.{blank_number}
 use Rattle.header.specs.Header.{ReadingFits}
-use Rattle.render_law.specs.Law.{Fits}
 use Rattle.engine.specs.State.{View, fresh_view, view_at, looks}
 use Rattle.engine.proofs.Core.{One, one_glass, empty, with_look, with_term, resized, started, room_of, key_next, attach_next, from_next, from_other, from_says, gone_next, gone_other, first_attach, key_empty, from_empty, gone_empty}
 use Rattle.engine.proofs.Machine.{Pictured, Viewed}

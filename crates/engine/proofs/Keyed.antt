@@ -1,5 +1,5 @@
 -- What the plain glass does with a key, where of the keys after the prefix d is known or none.
-use Rattle.std.proofs.Common.{◌≡◌, ℕ, Bool, true, false, eqb, List, [], ◌∷◌, refl, ap, ◌∙◌}
+use Rattle.std.proofs.Common.{◌≡◌, ℕ, Bool, true, false, eqb, [], ◌∷◌}
 use Rattle.meaning.specs.Panes.{Glass, key, send, leave, turn, turn_of, command, with_prefix, current}
 use Rattle.windows.specs.Parts.{left}
 

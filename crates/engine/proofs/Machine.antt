@@ -1,18 +1,18 @@
 -- The main promise for every list of things that come, from a few facts about states: what the writer needs of a glass that is looked at, what each turn keeps,
 -- and that a state put into memory is found there again.
-use Rattle.std.proofs.Common.{◌≡◌, ℕ, zero, suc, ◌+◌, ◌*◌, ◌^◌, ◌<◌, ◌≤◌, Bool, true, false, not, ◌&&◌, eqb, ltb, leb, ◌⊎◌, List, [], ◌∷◌, ◌++◌, length, sym, refl, ap, ◌∙◌, subst, inl, inr, arith}
+use Rattle.std.proofs.Common.{◌≡◌, ℕ, zero, suc, ◌+◌, ◌*◌, ◌^◌, ◌<◌, ◌≤◌, Bool, true, false, not, ◌&&◌, ltb, ◌⊎◌, List, [], ◌∷◌, length, sym, refl, ap, ◌∙◌, subst, inl, inr, arith}
 use Rattle.std.proofs.lemmas.Bool.{and_parts, and_from, and_left, not-true, cases_Bool, le-leb, cond-true, cond-false}
-use Rattle.meaning.specs.Words.{pick, every, none_of, so_many}
+use Rattle.meaning.specs.Words.{every, none_of}
 use Rattle.meaning.specs.Screen.{Cell, Term, fresh}
 use Rattle.meaning.specs.Bytes.{written}
 use Rattle.meaning.specs.Panes.{Glass, Event, key, from, gone, attach, Says, turn}
 use Rattle.meaning.specs.Picture.{picture, spot, differs}
-use Rattle.meaning.specs.Promise.{Engine, ToldIt, comes, next, write, says, wait, Step, Ran, ran, runs, a_row, screen_at, Shows, is_over, Right, proper_event}
+use Rattle.meaning.specs.Promise.{Engine, ToldIt, comes, next, Ran, a_row, screen_at, Shows, is_over, Right, proper_event}
 use Rattle.meaning.specs.Leaving.{glass_after, nobody_looks, Through, Any, Silent, Seen}
 use Rattle.grid.specs.Cells.{rows_of, cells_of}
-use Rattle.render_law.specs.Law.{Draws, Closes, Keeps, Fits, differing, all_fine}
+use Rattle.render_law.specs.Law.{Draws, Closes, Fits, differing, all_fine}
 use Rattle.render_law.proofs.Law.{writer_law}
-use Rattle.engine.specs.State.{View, State, Out, screen_of, fresh_view, state, out, go_room, drawing, closing, after_drawing, after_closing, looks, going, view_at, said_or_going, proper_told, kept, machine_by}
+use Rattle.engine.specs.State.{View, State, Out, screen_of, state, go_room, drawing, closing, after_drawing, after_closing, looks, going, view_at, said_or_going, proper_told, kept, machine_by}
 use Rattle.engine.proofs.Runs.{Comes, comes_wait, comes_says, comes_write, comes_weaker}
 
 -- what the writer needs of a glass that is looked at

@@ -1,5 +1,5 @@
 -- The areas of the memory lie apart: what is put into each is found there.
-use Rattle.std.proofs.Common.{◌≡◌, ℕ, ◌+◌, ◌^◌, ◌<◌, ◌≤◌, true, ltb, List, [], ◌∷◌, ◌++◌, length, take, drop, sym, refl, ap, ◌∙◌, arith}
+use Rattle.std.proofs.Common.{◌≡◌, ℕ, ◌^◌, ◌≤◌, true, ltb, List, length, sym, refl, ap, ◌∙◌, arith}
 use Rattle.meaning.specs.Words.{every}
 use Rattle.engine.specs.Areas.{part, over, put}
 use Rattle.engine.specs.Memory.{memory_size, header_at, screen_at, cells_at}

@@ -1,5 +1,5 @@
 -- The picture of any glass, with any layouts: as wide as the screen, in cells that can be drawn; and its cursor is on it.
-use Rattle.std.proofs.Common.{◌≡◌, ℕ, zero, suc, ◌+◌, ◌-◌, ◌*◌, ◌^◌, ◌<◌, ◌≤◌, min, Bool, true, false, ◌&&◌, eqb, ltb, leb, ◌⊎◌, List, [], ◌∷◌, ◌++◌, map, length, take, drop, sym, refl, ap, ◌∙◌, subst, inl, inr, arith, length-append, length-drop, length-take}
+use Rattle.std.proofs.Common.{◌≡◌, ℕ, zero, suc, ◌+◌, ◌-◌, ◌*◌, ◌^◌, ◌<◌, ◌≤◌, min, Bool, true, false, ◌&&◌, eqb, ltb, leb, List, [], ◌∷◌, ◌++◌, map, length, take, drop, sym, refl, ap, ◌∙◌, inl, inr, arith, length-append, length-drop, length-take}
 use lib.ListN.{length-replicate}
 use Rattle.std.specs.List.{AllByRecursion as All}
 use Rattle.std.proofs.ByRecursion.{All-append, All-take, All-drop, All-weaker}
@@ -8,10 +8,10 @@ use Rattle.std.proofs.lemmas.Bool.Decides.{nat_tests}
 use Rattle.meaning.specs.Words.{pick, every, so_many, put_at, each, those}
 use Rattle.meaning.specs.Screen.{Cell, Term, blank_row, blank, row_at}
 use Rattle.meaning.specs.Bytes.{digits, in_digits}
-use Rattle.meaning.specs.Panes.{Glass, Window, Layout, pane, beside, above, Rect, Place, Pane, places, half, left_of, right_of, upper_of, lower_of, room, current, pane_of, place_in, place_of_focus}
-use Rattle.meaning.specs.Picture.{Rows, put_row, put_rows, cut, draw_one, draw_places, draw_lines, sign, turned, window_signs, last_row, picture, Spot, nowhere, spot, spot_in, spot_of}
+use Rattle.meaning.specs.Panes.{Glass, Window, Layout, pane, beside, above, Rect, Place, Pane, places, half, left_of, right_of, upper_of, lower_of, room, current, pane_of, place_of_focus}
+use Rattle.meaning.specs.Picture.{Rows, put_row, put_rows, draw_one, draw_places, draw_lines, sign, turned, window_signs, last_row, picture, Spot, nowhere, spot, spot_in, spot_of}
 use Rattle.meaning.specs.Laws.{fine_cell, colour}
-use Rattle.meaning.proofs.Sound.{Sound, SoundFields, AsWide}
+use Rattle.meaning.proofs.Sound.{Sound, AsWide}
 use Rattle.meaning.proofs.Edits.{decides_every, all_replicate}
 use Rattle.meaning.proofs.Drawable.{Fine, FineRow}
 use Rattle.meaning.proofs.Large.{picture_large}

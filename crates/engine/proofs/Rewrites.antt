@@ -1,12 +1,12 @@
 -- A memory that was changed within an area that is then written over as a whole: only the last counts.
-use Rattle.std.proofs.Common.{◌≡◌, ℕ, ◌+◌, ◌-◌, ◌<◌, ◌≤◌, List, [], ◌∷◌, ◌++◌, length, take, drop, sym, refl, ap, ◌∙◌, append_assoc, arith, length-append}
+use Rattle.std.proofs.Common.{◌≡◌, ℕ, ◌+◌, ◌-◌, ◌≤◌, List, [], ◌∷◌, ◌++◌, length, take, drop, sym, refl, ap, ◌∙◌, append_assoc, arith, length-append}
 use lib.ListN.{length-map}
 use lib.Seq.{take-append-add}
-use Rattle.std.proofs.lemmas.List.{take_at, drop_at, drop-drop, drop-append-le, take-append-le, drop-take, take-take, take_all, length-take-le}
+use Rattle.std.proofs.lemmas.List.{take_at, drop_at, drop-drop, drop-append-le, drop-take, take_all, length-take-le}
 use Rattle.std.proofs.lemmas.Slice.{take-put_mid_below, drop-put_mid}
 use Rattle.meaning.specs.Panes.{Pane}
 use Rattle.grid.specs.Cells.{cells_of}
-use Rattle.engine.specs.Areas.{part, over, cut64, put}
+use Rattle.engine.specs.Areas.{over, cut64, put}
 use Rattle.engine.specs.State.{State}
 use Rattle.engine.specs.Memory.{memory_size, screen_at, cells_at, with_cells, with_header, head_of, encode}
 use Rattle.engine.proofs.Areas.{length_over}

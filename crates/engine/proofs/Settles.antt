@@ -1,19 +1,19 @@
 -- The promise of one thing that comes, where panes are settled step by step: what is said and shown is the plain glass's, which settles in one go.
-use Rattle.std.proofs.Common.{◌≡◌, ℕ, zero, suc, ◌+◌, ◌*◌, ◌<◌, ◌≤◌, Bool, true, false, ◌&&◌, List, [], ◌∷◌, ◌++◌, length, sym, refl, ap, ◌∙◌, subst, arith}
+use Rattle.std.proofs.Common.{◌≡◌, ℕ, zero, suc, ◌+◌, ◌*◌, ◌≤◌, Bool, true, ◌&&◌, List, [], ◌∷◌, ◌++◌, length, sym, refl, ap, ◌∙◌, subst, arith}
 use Rattle.std.proofs.lemmas.Bool.{and_from, cond-true}
 use Rattle.meaning.specs.Screen.{Term}
-use Rattle.meaning.specs.Panes.{Glass, Event, Place, Says, Turn, turn, turn_of, with_panes, fit_places, all_places, settled}
-use Rattle.meaning.specs.Promise.{Engine, ToldIt, comes, next, says, Ran, screen_at, proper_event}
+use Rattle.meaning.specs.Panes.{Glass, Event, Place, Says, Turn, turn, turn_of, fit_places, all_places, settled}
+use Rattle.meaning.specs.Promise.{Engine, ToldIt, comes, next, Ran, proper_event}
 use Rattle.windows.specs.Counting.{times, place_ids, pane_ids}
 use Rattle.windows.specs.Settling.{first_unfit, count_unfit, AtRest, fit_one, size_of}
 use Rattle.windows.specs.Parts.{part}
 use Rattle.windows.proofs.Settle.{first_is, none_is, count_none, one_told}
 use Rattle.windows.proofs.Rest.{first_none}
 use Rattle.windows.proofs.Turns.{part_settles, part_says}
-use Rattle.engine.specs.State.{View, State, Out, state, screen_of, looks, going, view_at, proper_told, kept, machine_by}
+use Rattle.engine.specs.State.{View, State, state, screen_of, looks, going, view_at, proper_told, kept, machine_by}
 use Rattle.engine.specs.Settling.{fit_or_go, settling, said_or_settling, stepped_on}
 use Rattle.engine.proofs.Runs.{Comes, comes_says}
-use Rattle.engine.proofs.Machine.{Pictured, Viewed, wrong, Holds, After, EventRuns, goes_on, step_is, screen_is}
+use Rattle.engine.proofs.Machine.{Pictured, Viewed, wrong, After, EventRuns, goes_on, step_is, screen_is}
 
 -- from rest the machine goes on
 pub settling_rests : (g : Glass) (v : View) → AtRest g → settling g v ≡ going g v

@@ -1,5 +1,5 @@
 -- The memory at the start.
-use Rattle.std.proofs.Common.{◌≡◌, ℕ, zero, suc, Bool, true, ◌&&◌, eqb, length, refl, ◌∙◌}
+use Rattle.std.proofs.Common.{◌≡◌, ℕ, zero, suc, true, eqb, length, refl, ◌∙◌}
 use lib.ListN.{length-replicate}
 use Rattle.meaning.specs.Words.{so_many, every}
 use Rattle.engine.specs.Memory.{memory_size}

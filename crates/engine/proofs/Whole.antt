@@ -1,23 +1,17 @@
 -- The whole promise of the machine for one window with one pane, where of the keys after the prefix d is known or none.
-use Rattle.std.proofs.Common.{◌≡◌, ℕ, zero, suc, ◌+◌, ◌-◌, ◌*◌, ◌^◌, ◌<◌, ◌≤◌, Bool, true, false, ◌&&◌, eqb, ltb, leb, ◌⊎◌, List, [], ◌∷◌, ◌++◌, length, get_or, take, drop, sym, refl, ap, ◌∙◌, subst, inl, inr, arith}
+use Rattle.std.proofs.Common.{◌≡◌, ℕ, zero, suc, ◌+◌, ◌*◌, ◌^◌, ◌≤◌, Bool, true, false, ◌&&◌, ltb, List, [], ◌∷◌, length, get_or, take, sym, refl, ap, ◌∙◌, subst, arith}
 use lib.ListN.{length-replicate}
-use Rattle.std.proofs.lemmas.Bool.{and_parts, and_from, cases_Bool, cond-true, cond-false, eq-eqb, ne_eqb, ltb-true, or_left}
+use Rattle.std.proofs.lemmas.Bool.{and_from, cond-true, eq-eqb, ne_eqb, or_left}
 use Rattle.meaning.specs.Words.{pick, every, so_many}
-use Rattle.meaning.specs.Screen.{Cell, Style, Term, fresh}
-use Rattle.meaning.specs.Bytes.{written}
+use Rattle.meaning.specs.Screen.{Term, fresh}
 use Rattle.meaning.specs.Panes.{Glass, Event, Pane, turn, at_first}
 use Rattle.meaning.specs.Promise.{Engine, ToldIt, comes, next, Act, Step, wait, core, detaching, proper_event, all_small, Steady, Right, Whole}
 use Rattle.meaning.specs.Leaving.{glass_after, Through, Any, Silent, Seen, ComesBack}
-use Rattle.meaning.specs.Laws.{colour, fine_style}
-use Rattle.meaning.proofs.Sound.{Sound, SoundFields}
-use Rattle.meaning.proofs.Drawable.{Fine}
 use Rattle.meaning.proofs.Small.{fine_style_small}
 use Rattle.grid.specs.Cells.{rows_of, cells_of}
-use Rattle.header.specs.Header.{InRange}
 use Rattle.render_law.proofs.Law.{writer_law}
 use Rattle.render_law.proofs.Rows.{rows_of_cells, length_cells}
-use Rattle.engine.specs.Areas.{part, put}
-use Rattle.engine.specs.State.{View, State, state, fresh_view, screen_of, going, view_at, said_or_going, proper_told, taking, stepped, kept, machine_by, machine_of}
+use Rattle.engine.specs.State.{View, State, state, fresh_view, going, view_at, said_or_going, proper_told, taking, stepped, machine_by, machine_of}
 use Rattle.engine.specs.Memory.{memory_size, memory_fits, decode, encode, with_cells, with_header}
 use Rattle.engine.specs.Core.{core_machine}
 use Rattle.engine.specs.Detaching.{detaching_machine}
@@ -27,9 +21,9 @@ use Rattle.engine.proofs.Start.{all_zero}
 use Rattle.engine.proofs.Core.{One, one_glass, empty}
 use Rattle.engine.proofs.Same.{same_right}
 use Rattle.engine.proofs.Machine.{Viewed, Holds, EventRuns, one_saying, all_right, all_through, all_silent, attach_seen}
-use Rattle.engine.proofs.Pictures.{PaneOk, small_cells, every_fine}
-use Rattle.engine.proofs.Back.{Kept, Sized, back_one, back_empty, fits_one, fits_empty, long_one, long_empty}
-use Rattle.engine.proofs.Good.{Good, one, none, OneOk, EmptyOk, short_fits, pictured, sized, turn_good, turn_viewed, few_says, attach_looks, fresh_viewed}
+use Rattle.engine.proofs.Pictures.{small_cells, every_fine}
+use Rattle.engine.proofs.Back.{Kept, back_one, back_empty, fits_one, fits_empty}
+use Rattle.engine.proofs.Good.{Good, one, none, OneOk, short_fits, pictured, sized, turn_good, turn_viewed, few_says, attach_looks, fresh_viewed}
 
 -- the pane can be kept in memory
 kept_one : (n : ℕ) (u : One) → OneOk n u → Kept u

@@ -1,6 +1,6 @@
 -- The machine whose steps the code goes. It keeps its memory and waits, whatever comes, until the code of the one in Core has been written.
 use Rattle.meaning.specs.Words.{so_many}
-use Rattle.meaning.specs.Promise.{Engine, Step, wait}
+use Rattle.meaning.specs.Promise.{Engine, wait}
 use Rattle.engine.specs.Memory.{memory_size}
 
 unfoldable pub own : Engine

@@ -1,5 +1,5 @@
 -- The machine's step on its state: the plain glass, and what the viewer's screen shows and is set to. Nothing is queued: every act follows from the state.
-use Rattle.std.specs.Prelude.{ℕ, ◌*◌, Bool, true, false, not, ◌&&◌, List, [], ◌∷◌}
+use Rattle.std.specs.Prelude.{ℕ, ◌*◌, Bool, true, not, ◌&&◌, List, [], ◌∷◌}
 use Rattle.meaning.specs.Words.{pick, none_of, so_many}
 use Rattle.meaning.specs.Screen.{Term}
 use Rattle.meaning.specs.Panes.{Glass, Event, key, from, gone, attach, Says, turn}

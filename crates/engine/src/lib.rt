@@ -1,4 +1,6 @@
 // The machine as a definition (specs/Own.antt) and what is proved of it.
+#![tactic(auto)]
+
 ghost use Rattle.meaning.specs.Promise.{Steady, Whole, core, detaching};
 ghost use Rattle.meaning.specs.Leaving.{ComesBack};
 ghost use Rattle.engine.specs.Core.{core_machine};

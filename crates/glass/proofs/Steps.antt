@@ -1,7 +1,6 @@
 -- What a step that fits, and one that doesn't, has to leave.
 use Rattle.std.proofs.Common.{◌≡◌, ℕ, Bool, true, false, ◌&&◌, eqb, leb, List, length, sym, refl, subst}
-use Rattle.meaning.specs.Entry.{StepSays, ActTold, step_fits, told_of}
-use Rattle.meaning.specs.declared.answer.Told.{Told}
+use Rattle.meaning.specs.Entry.{StepSays, ActTold, step_fits}
 use Rattle.meaning.specs.declared.answer.Told.TheVariants.{Wait, No}
 use Rattle.engine.specs.Own.{own}
 use Rattle.engine.proofs.Start.{length_start}

@@ -1,4 +1,6 @@
 // The machine that runs: one step over lent memory, with no allocation and no input or output of its own.
+#![tactic(auto)]
+
 ghost use Rattle.std.specs.Prelude.{◌≡◌};
 ghost use Rattle.meaning.specs.Entry.{StepSays, step_fits};
 ghost use Rattle.engine.specs.Own.{own};

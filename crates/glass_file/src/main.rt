@@ -1,4 +1,6 @@
 // The glass over files: a day on standard input, or in the file named as the argument, and the machine's acts on standard output.
+#![tactic(auto)]
+
 use anyhow::anyhow;
 use days::{BadDay, Line, message, print_act, read_day};
 use glass::{MEMORY, OUT, step};

@@ -3,7 +3,7 @@ use Rattle.std.proofs.Common.{◌≡◌, ℕ, suc, ◌+◌, ◌-◌, ◌*◌, �
 use borrow.Rule.Slice.PartMut.{put_mid}
 use Rattle.std.proofs.lemmas.List.{append_assoc, length-drop, length-map, length-take-le, get_or-map, get_or-drop, get_or_at, set_at, take_more, take-take, take-map, same_lists, places}
 use Rattle.meaning.specs.Words.{each, so_many}
-use Rattle.meaning.specs.Screen.{Cell, blank, blank_row, row_at, fitted_row}
+use Rattle.meaning.specs.Screen.{Cell, blank_row, row_at, fitted_row}
 use Rattle.grid.specs.Cells.{rows_of, unpacked, blank_number}
 use Rattle.grid.specs.Edits.{rows_fitted}
 use Rattle.grid.proofs.Regions.{length_rows, rows_replicate}

@@ -1,5 +1,7 @@
 // A screen's cells in lent memory: a flat slice of numbers, row after row, one number a cell.
 // Each edit says what it does to the rows, and refuses cells that are not the screen's or places outside it, changing nothing.
+#![tactic(auto)]
+
 pub mod cell;
 pub mod line;
 pub mod resize;

@@ -1,4 +1,6 @@
 // A terminal's state in lent memory: a header of 64 numbers, beside which its cells stand.
+#![tactic(auto)]
+
 mod loading;
 mod storing;
 

@@ -1,5 +1,5 @@
 -- What the plain glass does when somebody attaches, case by case.
-use Rattle.std.proofs.Common.{◌≡◌, ℕ, suc, ◌-◌, Bool, true, false, eqb, List, [], ◌∷◌, Some, None, sym, refl, ap, ◌∙◌, subst}
+use Rattle.std.proofs.Common.{◌≡◌, ℕ, suc, ◌-◌, true, false, eqb, List, [], ◌∷◌, Some, None, refl}
 use Rattle.std.proofs.lemmas.Bool.{eq-eqb}
 use Rattle.meaning.specs.Screen.{fresh, fitted}
 use Rattle.meaning.specs.Panes.{Rect, rect, attach, start, sized, turn, turn_of, settled, fit_places, places, pane_wide, pane_high, as_large}

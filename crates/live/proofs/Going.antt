@@ -1,25 +1,24 @@
 -- Going on, case by case.
-use Rattle.std.proofs.Common.{◌≡◌, ℕ, ◌+◌, ◌*◌, ◌<◌, ◌≤◌, Bool, true, false, List, [], ◌∷◌, ◌++◌, length, take, drop, Some, None, sym, refl, ap, ◌∙◌, subst, arith}
+use Rattle.std.proofs.Common.{◌≡◌, ℕ, ◌<◌, Bool, true, false, List, [], ◌∷◌, ◌++◌, length, drop, Some, None, sym, refl, ap, ◌∙◌, subst, arith}
 use Rattle.std.proofs.lemmas.List.{nil_from_length}
 use Rattle.std.proofs.lemmas.Bool.{cond-true, cond-false, eq-eqb, and_right}
-use Rattle.meaning.specs.Words.{pick, none_of}
+use Rattle.meaning.specs.Words.{none_of}
 use Rattle.meaning.specs.Screen.{Cell}
 use Rattle.meaning.specs.Panes.{Glass}
 use Rattle.meaning.specs.Picture.{spot}
 use Rattle.terminal.specs.Terms.{term_of}
-use Rattle.meaning.specs.Promise.{Act, write, wait}
+use Rattle.meaning.specs.Promise.{write, wait}
 use Rattle.meaning.specs.Entry.{ActTold}
 use Rattle.meaning.specs.declared.answer.Told.TheVariants.{Write, Wait}
 use Rattle.layout.specs.Window.{one_pane}
 use Rattle.render.specs.declared.pen.Pen.{Pen}
-use Rattle.engine.specs.Areas.{part, over}
-use Rattle.engine.specs.State.{View, Out, state, out, drawing, closing, after_drawing, after_closing, looks, going}
+use Rattle.engine.specs.State.{View, Out, state, out, drawing, closing, after_drawing, looks, going}
 use Rattle.engine.specs.Memory.{memory_size, encode}
 use Rattle.engine.proofs.Maps.{placed}
 use Rattle.machine.specs.States.{terminal_in, glass_of, view_of, state_of, Stored}
 use Rattle.machine.specs.declared.state.Held.{Held}
 use Rattle.machine.specs.declared.state.Machine.{Machine}
-use Rattle.live.specs.Sent.{Sent, Closed, closing_at}
+use Rattle.live.specs.Sent.{Closed, closing_at}
 use Rattle.live.specs.Does.{Does, closing_out}
 
 -- a machine with a pane that is looked at

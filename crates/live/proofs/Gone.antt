@@ -1,12 +1,12 @@
 -- A program's end, case by case.
-use Rattle.std.proofs.Common.{◌≡◌, ℕ, Bool, true, false, eqb, List, [], ◌∷◌, Some, None, sym, refl, ap, ◌∙◌, subst}
+use Rattle.std.proofs.Common.{◌≡◌, ℕ, false, eqb, List, [], ◌∷◌, Some, None, sym, refl, ap, ◌∙◌, subst}
 use Rattle.std.proofs.lemmas.Bool.{eq-eqb}
 use Rattle.meaning.specs.Panes.{Glass, gone, over, turn, turn_of, settled, fit_places, places, without, gone_before, ids}
-use Rattle.meaning.specs.Promise.{detaching, says}
+use Rattle.meaning.specs.Promise.{detaching}
 use Rattle.meaning.specs.Entry.{ActTold, SaysTold}
 use Rattle.meaning.specs.declared.answer.Told.{Told}
 use Rattle.meaning.specs.declared.answer.Told.TheVariants.{Over}
-use Rattle.engine.specs.State.{View, Out, state, out, going, said_or_going, view_at}
+use Rattle.engine.specs.State.{View, Out, state, going, said_or_going, view_at}
 use Rattle.engine.specs.Memory.{encode}
 use Rattle.machine.specs.States.{glass_of, view_of}
 use Rattle.machine.specs.declared.state.Held.{Held}

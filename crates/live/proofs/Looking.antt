@@ -1,11 +1,10 @@
 -- Somebody attaches: the memory and the act, case by case.
-use Rattle.std.proofs.Common.{◌≡◌, ℕ, suc, ◌+◌, ◌-◌, ◌*◌, ◌≤◌, Bool, true, false, ◌&&◌, eqb, List, [], ◌∷◌, length, Some, None, sym, refl, ap, ◌∙◌, subst, arith}
+use Rattle.std.proofs.Common.{◌≡◌, ℕ, suc, ◌+◌, ◌*◌, ◌≤◌, Bool, true, false, List, [], ◌∷◌, length, Some, None, sym, refl, ap, ◌∙◌, subst, arith}
 use lib.ListN.{length-replicate}
 use Rattle.meaning.specs.Words.{pick, none_of, so_many}
 use Rattle.meaning.specs.Screen.{Term, fresh, fitted}
-use Rattle.meaning.specs.Panes.{Glass, Pane, Says, attach, start, sized, turn_of, pane_wide, pane_high, as_large, with_panes}
+use Rattle.meaning.specs.Panes.{Glass, attach, pane_wide, pane_high, as_large, with_panes}
 use Rattle.meaning.specs.Picture.{picture}
-use Rattle.meaning.specs.Promise.{says}
 use Rattle.meaning.specs.Entry.{ActTold, SaysTold}
 use Rattle.meaning.specs.declared.answer.Told.{Told}
 use Rattle.meaning.specs.declared.answer.Told.TheVariants.{Start, Size as SizeIs}
@@ -18,7 +17,7 @@ use Rattle.render.specs.declared.pen.Pen.{Pen}
 use Rattle.render.specs.Pens.{fresh_pen}
 use Rattle.render_law.proofs.Law.{writer_law}
 use Rattle.engine.specs.Areas.{part, over}
-use Rattle.engine.specs.State.{View, State, Out, state, out, fresh_view, go_room, drawing, closing, looks, going, said_or_going, view_at}
+use Rattle.engine.specs.State.{View, Out, state, fresh_view, go_room, drawing, closing, looks, going, said_or_going, view_at}
 use Rattle.engine.specs.Memory.{memory_size, screen_at, cells_at, encode}
 use Rattle.engine.proofs.Areas.{part_over, part_over_above}
 use Rattle.engine.proofs.Maps.{placed}

@@ -1,6 +1,6 @@
 -- Keys, case by case.
-use Rattle.std.proofs.Common.{◌≡◌, ℕ, ◌+◌, ◌*◌, ◌<◌, Bool, true, false, eqb, List, [], ◌∷◌, ◌++◌, length, drop, set, Some, None, Option, sym, refl, ap, ◌∙◌, subst, arith}
-use Rattle.meaning.specs.Panes.{Glass, Turn, key, send, leave, turn, turn_of, with_prefix, window_at, current}
+use Rattle.std.proofs.Common.{◌≡◌, ℕ, ◌+◌, ◌*◌, ◌<◌, Bool, List, [], ◌∷◌, ◌++◌, length, drop, set, Some, None, Option, sym, refl, ap, ◌∙◌, subst, arith}
+use Rattle.meaning.specs.Panes.{Glass, key, send, leave, turn, turn_of, with_prefix, window_at, current}
 use Rattle.meaning.specs.Promise.{detaching, says}
 use Rattle.meaning.specs.Entry.{ActTold, SaysTold}
 use Rattle.meaning.specs.declared.answer.Told.{Told}

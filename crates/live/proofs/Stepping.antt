@@ -1,17 +1,15 @@
 -- A whole step, as its contract states it.
-use Rattle.std.proofs.Common.{◌≡◌, ℕ, ◌*◌, ◌≤◌, Bool, true, false, ◌&&◌, eqb, leb, List, [], ◌∷◌, length, None, sym, refl, ap, ◌∙◌, subst, arith}
+use Rattle.std.proofs.Common.{◌≡◌, ℕ, ◌*◌, ◌≤◌, Bool, true, false, ◌&&◌, eqb, leb, List, [], ◌∷◌, length, sym, refl, ap, ◌∙◌, subst}
 use Rattle.std.proofs.lemmas.Bool.{and_from, and_left, and_right, cond-true, cond-false, and_parts, eqb-true, leb-true}
-use Rattle.meaning.specs.Words.{pick, so_many}
-use Rattle.meaning.specs.Panes.{Glass, Event, key, from, gone, attach, turn, on_bytes, command, at_first}
+use Rattle.meaning.specs.Words.{so_many}
+use Rattle.meaning.specs.Panes.{Glass, Event, key, from, gone, attach, turn, on_bytes, at_first}
 use Rattle.meaning.specs.Promise.{ToldIt, comes, next, Act, wait, Step, detaching}
 use Rattle.meaning.specs.Entry.{StepSays, ActTold, step_fits, told_of}
 use Rattle.meaning.specs.declared.answer.Told.{Told}
 use Rattle.meaning.specs.declared.answer.Told.TheVariants.{Wait, No}
 use Rattle.grid.specs.Cells.{blank_number}
-use Rattle.render.specs.declared.pen.Pen.{Pen}
-use Rattle.render.specs.Pens.{fresh_pen}
 use Rattle.engine.specs.Areas.{over}
-use Rattle.engine.specs.State.{View, State, Out, state, out, fresh_view, going, view_at, said_or_going, proper_told, taking, kept, machine_by}
+use Rattle.engine.specs.State.{State, Out, state, out, fresh_view, going, view_at, said_or_going, proper_told, taking, kept, machine_by}
 use Rattle.engine.specs.Memory.{memory_size, screen_at, memory_fits, decode, encode}
 use Rattle.engine.specs.Detaching.{detaching_machine}
 use Rattle.engine.proofs.Start.{detaching_start}

@@ -1,10 +1,10 @@
 -- What has come, by the numbers that a step is told.
-use Rattle.std.proofs.Common.{◌≡◌, ℕ, suc, ◌<◌, ◌≤◌, Bool, true, false, ◌&&◌, eqb, ltb, leb, List, [], ◌∷◌, length, get_or, sym, refl, ap, ◌∙◌, arith, w8, Fits}
+use Rattle.std.proofs.Common.{◌≡◌, ℕ, suc, ◌<◌, ◌≤◌, true, false, ◌&&◌, ltb, leb, List, [], ◌∷◌, length, get_or, sym, refl, ap, arith, w8, Fits}
 use Rattle.std.proofs.lemmas.Bool.{and_from, and_left, and_right, lt-ltb, le-ltb, le-leb, lt-leb, ne_eqb}
 use Rattle.std.proofs.lemmas.Bool.Decides.{nat_tests}
-use Rattle.meaning.specs.Words.{pick, every}
+use Rattle.meaning.specs.Words.{every}
 use Rattle.meaning.specs.Panes.{key, from, gone, attach}
-use Rattle.meaning.specs.Promise.{ToldIt, comes, next, proper_event, a_row}
+use Rattle.meaning.specs.Promise.{comes, next, proper_event}
 use Rattle.meaning.specs.Entry.{told_of}
 use Rattle.engine.specs.State.{proper_told}
 

@@ -1,18 +1,17 @@
 -- What a memory holds, read area by area.
-use Rattle.std.proofs.Common.{◌≡◌, ℕ, ◌*◌, ◌^◌, ◌<◌, Bool, true, false, not, ◌&&◌, eqb, ltb, leb, List, [], ◌∷◌, length, get_or, take, drop, Some, None, Option, sym, refl, ap, ◌∙◌, subst, arith}
+use Rattle.std.proofs.Common.{◌≡◌, ℕ, ◌*◌, ◌^◌, ◌<◌, Bool, true, false, not, ◌&&◌, eqb, ltb, leb, List, [], length, get_or, drop, Some, None, Option, sym, ap, ◌∙◌, subst, arith}
 use Rattle.std.proofs.lemmas.List.{get_or-take}
 use Rattle.std.proofs.lemmas.Bool.{and_left, and_right, and_from, or_left, or_right, not_from_false, eq-eqb, ne_eqb, lt-ltb}
 use Rattle.meaning.specs.Words.{or}
 use Rattle.meaning.specs.Screen.{Cell, Term}
-use Rattle.meaning.specs.Panes.{Window, Pane, at_first}
+use Rattle.meaning.specs.Panes.{at_first}
 use Rattle.grid.specs.Cells.{rows_of}
 use Rattle.terminal.specs.Terms.{term_of}
 use Rattle.terminal.specs.declared.state.Terminal.{Terminal}
 use Rattle.header.specs.Header.{yes, header_fits, term_from}
 use Rattle.header.specs.Outcomes.{Loaded as HeaderLoads}
-use Rattle.render.specs.declared.pen.Pen.{Pen}
 use Rattle.engine.specs.Areas.{part}
-use Rattle.engine.specs.State.{State, state, fresh_view}
+use Rattle.engine.specs.State.{state, fresh_view}
 use Rattle.engine.specs.Memory.{memory_size, header_at, screen_at, cells_at, head_fits, memory_fits, windows_from, panes_from, terminal_from, pen_from, decode}
 use Rattle.engine.proofs.Maps.{placed}
 use Rattle.machine.specs.States.{terminal_in, windows_of, panes_of, state_of, used_fits, used, PaneIs}

@@ -1,5 +1,5 @@
 -- A state whose cells stand in memory already is stored by its head and its pane's header alone.
-use Rattle.std.proofs.Common.{◌≡◌, ℕ, ◌+◌, ◌*◌, ◌<◌, ◌≤◌, Bool, true, List, [], ◌∷◌, ◌++◌, length, take, drop, Some, None, Option, sym, refl, ap, ◌∙◌, subst, mul-le-mul, arith}
+use Rattle.std.proofs.Common.{◌≡◌, ℕ, ◌+◌, ◌*◌, ◌≤◌, true, List, [], length, Some, None, Option, sym, refl, ap, ◌∙◌, subst, mul-le-mul, arith}
 use borrow.Rule.Slice.PartMut.{put_mid}
 use Rattle.meaning.specs.Screen.{Cell}
 use Rattle.meaning.specs.Panes.{Pane}
@@ -9,7 +9,7 @@ use Rattle.grid.proofs.Codes.{cells_of_rows}
 use Rattle.terminal.specs.Terms.{term_of}
 use Rattle.header.specs.Header.{header_of}
 use Rattle.engine.specs.Areas.{part, put}
-use Rattle.engine.specs.Memory.{memory_size, header_at, screen_at, cells_at, head_of, with_cells, with_header, encode}
+use Rattle.engine.specs.Memory.{header_at, screen_at, cells_at, head_of, with_cells, with_header, encode}
 use Rattle.engine.proofs.Maps.{placed}
 use Rattle.machine.specs.States.{terminal_in, panes_of, glass_of, view_of, state_of}
 use Rattle.machine.specs.declared.state.Held.{Held}

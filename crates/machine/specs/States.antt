@@ -1,5 +1,5 @@
 -- What the code's machine stands for, with the cells in its memory, and what loading and storing it leave.
-use Rattle.std.specs.Prelude.{◌≡◌, ℕ, ◌*◌, ◌^◌, ◌<◌, Bool, true, false, not, ◌&&◌, List, [], ◌∷◌, length, drop, Some, None, Option, ◌==◌, slice_index}
+use Rattle.std.specs.Prelude.{◌≡◌, ℕ, ◌*◌, ◌^◌, ◌<◌, Bool, true, false, not, ◌&&◌, List, [], length, drop, Some, None, Option, ◌==◌, slice_index}
 use Rattle.meaning.specs.Words.{or}
 use Rattle.meaning.specs.Screen.{Term}
 use Rattle.meaning.specs.Panes.{Glass, Window, Pane, at_first}

@@ -1,4 +1,6 @@
 // The machine's state as a struct, loaded from its memory and stored there; screens' cells stay in the memory.
+#![tactic(auto)]
+
 mod loading;
 pub mod state;
 mod storing;

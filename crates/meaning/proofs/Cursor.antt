@@ -1,8 +1,8 @@
 -- The cursor: saved and restored, a row down and up again; and where keys go.
-use Rattle.std.proofs.Common.{◌≡◌, ℕ, suc, ◌-◌, ◌<◌, ◌≤◌, Bool, true, false, ◌&&◌, eqb, ltb, leb, length, sym, refl, ap, arith}
+use Rattle.std.proofs.Common.{◌≡◌, ℕ, suc, ◌-◌, ◌<◌, ◌≤◌, true, ◌&&◌, eqb, ltb, leb, length, ap, arith}
 use Rattle.std.proofs.lemmas.Bool.{ne_eqb, and_parts, ltb-true, leb-true}
 use Rattle.meaning.specs.Words.{smaller}
-use Rattle.meaning.specs.Screen.{Term, row_on, row_back, at}
+use Rattle.meaning.specs.Screen.{Term, row_on, at}
 use Rattle.meaning.specs.Panes.{turn}
 use Rattle.meaning.specs.Laws.{good, Restored, OnAndBack, KeysGo}
 

@@ -1,6 +1,5 @@
 -- Bytes written in two parts.
-use Rattle.std.proofs.Common.{◌≡◌, ℕ, List, [], ◌∷◌, ◌++◌, refl}
-use Rattle.meaning.specs.Screen.{Term}
+use Rattle.std.proofs.Common.{[], ◌∷◌, refl}
 use Rattle.meaning.specs.Bytes.{byte, written}
 use Rattle.meaning.specs.Laws.{InParts}
 

@@ -1,8 +1,8 @@
 -- The places of a layout: they don't overlap, and none sticks out.
-use Rattle.std.proofs.Common.{◌≡◌, ℕ, zero, suc, ◌+◌, ◌<◌, ◌≤◌, Bool, true, false, ◌&&◌, ltb, leb, ◌⊎◌, List, [], ◌∷◌, ◌++◌, refl, inl, inr, arith}
+use Rattle.std.proofs.Common.{◌≡◌, ℕ, zero, suc, ◌+◌, ◌<◌, ◌≤◌, true, false, ◌&&◌, ltb, leb, ◌⊎◌, List, [], ◌∷◌, ◌++◌, inl, inr, arith}
 use Rattle.std.proofs.lemmas.Bool.{lt-ltb, le-leb, and_parts, leb-true, ltb-true, cases_Bool}
 use Rattle.meaning.specs.Words.{pick}
-use Rattle.meaning.specs.Panes.{Layout, pane, beside, above, Rect, Place, places, left_of, right_of, upper_of, lower_of}
+use Rattle.meaning.specs.Panes.{pane, beside, above, Rect, Place, places, left_of, right_of, upper_of, lower_of}
 use Rattle.meaning.specs.Laws.{covers, how_often, Shared}
 
 -- what it is for a part of the screen to have a cell

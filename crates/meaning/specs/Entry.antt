@@ -1,9 +1,9 @@
 -- What the two entries answer: the one that changes a style, and one step of the machine, told to the world outside in numbers.
-use Rattle.std.specs.Prelude.{◌≡◌, ℕ, zero, suc, ◌+◌, ◌-◌, ◌*◌, ◌/◌, ◌%◌, ◌<◌, ◌≤◌, Bool, true, false, not, ◌&&◌, List, [], ◌∷◌, ◌++◌, length, drop, ◌==◌, nat_le, nat_lt}
+use Rattle.std.specs.Prelude.{◌≡◌, ℕ, ◌+◌, ◌*◌, ◌/◌, ◌%◌, Bool, true, false, ◌&&◌, List, ◌++◌, length, drop, ◌==◌, nat_le, nat_lt}
 use Rattle.meaning.specs.Words.{pick, or}
 use Rattle.meaning.specs.Screen.{Style, styled}
-use Rattle.meaning.specs.Panes.{Event, key, from, gone, attach, Says, send, start, sized, stop, leave, over}
-use Rattle.meaning.specs.Promise.{Engine, ToldIt, comes, next, Act, write, says, wait, Step}
+use Rattle.meaning.specs.Panes.{key, from, gone, attach, Says, send, start, sized, stop, leave, over}
+use Rattle.meaning.specs.Promise.{Engine, ToldIt, comes, next, Act, write, says, wait}
 use Rattle.meaning.specs.declared.answer.Reply.{Reply}
 use Rattle.meaning.specs.declared.answer.Reply.TheVariants.{DrawnSo, Refused}
 use Rattle.meaning.specs.declared.answer.Told.{Told}

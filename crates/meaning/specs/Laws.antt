@@ -1,5 +1,5 @@
 -- Laws of screens and of the plain glass, each stated here and proved as the contract of a function of this crate or of one above it.
-use Rattle.std.specs.Prelude.{◌≡◌, ℕ, zero, suc, ◌+◌, ◌-◌, ◌*◌, ◌/◌, ◌%◌, ◌<◌, ◌≤◌, Bool, true, false, not, ◌&&◌, List, [], ◌∷◌, ◌++◌, length, ◌==◌, nat_eq, nat_le, nat_lt}
+use Rattle.std.specs.Prelude.{◌≡◌, ℕ, zero, suc, ◌+◌, ◌*◌, ◌<◌, ◌≤◌, Bool, true, false, ◌&&◌, List, [], ◌∷◌, ◌++◌, length, ◌==◌, nat_eq, nat_le, nat_lt}
 use Rattle.meaning.specs.Words.{pick, or, every}
 use Rattle.meaning.specs.Screen.{Style, Cell, Term, fresh, save, restore, row_on, row_back, at}
 use Rattle.meaning.specs.Bytes.{byte, written}

@@ -1,6 +1,6 @@
 -- Windows with panes, and what keys and programs do to them: the plain glass, which the machine is measured by.
-use Rattle.std.specs.Prelude.{ℕ, zero, suc, ◌+◌, ◌-◌, ◌*◌, ◌/◌, ◌%◌, ◌<◌, ◌≤◌, Bool, true, false, not, ◌&&◌, List, [], ◌∷◌, ◌++◌, length, ◌==◌, nat_eq, nat_le, nat_lt, slice_index}
-use Rattle.meaning.specs.Words.{pick, or, each, those, flat, none_of, so_many, smaller, larger, put_at}
+use Rattle.std.specs.Prelude.{ℕ, zero, suc, ◌+◌, ◌-◌, ◌/◌, ◌%◌, Bool, true, false, not, ◌&&◌, List, [], ◌∷◌, ◌++◌, length, ◌==◌, nat_eq, nat_le, nat_lt, slice_index}
+use Rattle.meaning.specs.Words.{pick, or, each, those, flat, none_of, smaller, larger, put_at}
 use Rattle.meaning.specs.Screen.{Term, fresh, fitted, with_answer}
 use Rattle.meaning.specs.Bytes.{written}
 

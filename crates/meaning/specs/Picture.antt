@@ -1,7 +1,7 @@
 -- The picture that windows and panes make: the cells of the whole screen, where its cursor is, and in how many cells two pictures differ.
-use Rattle.std.specs.Prelude.{ℕ, zero, suc, ◌+◌, ◌-◌, ◌*◌, ◌/◌, ◌%◌, ◌<◌, ◌≤◌, Bool, true, false, not, ◌&&◌, List, [], ◌∷◌, ◌++◌, length, take, drop, ◌==◌, nat_lt}
+use Rattle.std.specs.Prelude.{ℕ, suc, ◌+◌, ◌-◌, Bool, true, false, ◌&&◌, List, [], ◌∷◌, ◌++◌, length, take, drop, ◌==◌, nat_lt}
 use Rattle.meaning.specs.Words.{pick, each, so_many, put_at}
-use Rattle.meaning.specs.Screen.{Style, Cell, Term, blank_row, plain_style, row_at, same_cell}
+use Rattle.meaning.specs.Screen.{Cell, Term, blank_row, plain_style, row_at, same_cell}
 use Rattle.meaning.specs.Bytes.{in_digits}
 use Rattle.meaning.specs.Panes.{Layout, pane, beside, above, Rect, Place, places, half, left_of, right_of, upper_of, lower_of, Window, Pane, Glass, current, room, pane_of, place_of_focus}
 

@@ -1,9 +1,9 @@
 -- A machine between people and programs, and what it promises.
-use Rattle.std.specs.Prelude.{◌≡◌, ℕ, zero, suc, ◌+◌, ◌-◌, ◌*◌, ◌/◌, ◌%◌, ◌<◌, ◌≤◌, Bool, true, false, not, ◌&&◌, ltb, ◌⊎◌, List, [], ◌∷◌, ◌++◌, length, ◌==◌, nat_eq, nat_le, nat_lt}
+use Rattle.std.specs.Prelude.{◌≡◌, ℕ, zero, suc, ◌+◌, ◌*◌, ◌≤◌, Bool, true, false, ◌&&◌, ltb, ◌⊎◌, List, [], ◌∷◌, ◌++◌, length, ◌==◌, nat_eq, nat_le, nat_lt}
 use Rattle.meaning.specs.Words.{pick, every, none_of}
 use Rattle.meaning.specs.Screen.{Term, fresh}
 use Rattle.meaning.specs.Bytes.{written}
-use Rattle.meaning.specs.Panes.{Glass, Event, key, from, gone, attach, Says, Turn, turn, at_first}
+use Rattle.meaning.specs.Panes.{Glass, Event, key, from, gone, attach, Says, turn, at_first}
 use Rattle.meaning.specs.Picture.{picture, spot, differs}
 
 -- what the machine is told: something that comes in, or to go on

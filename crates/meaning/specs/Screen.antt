@@ -1,7 +1,7 @@
 -- A terminal's screen: cells, cursor, style, scroll region, modes, and the edits that control functions are made of.
 -- Rows and columns count from 0, the first row is the upper one. These are definitions alone; what a byte does is in Bytes.
-use Rattle.std.specs.Prelude.{ℕ, zero, suc, ◌+◌, ◌-◌, ◌*◌, ◌/◌, ◌%◌, ◌<◌, ◌≤◌, Bool, true, false, not, ◌&&◌, List, [], ◌∷◌, ◌++◌, length, take, drop, ◌==◌, nat_le, nat_lt}
-use Rattle.meaning.specs.Words.{pick, or, each, so_many, put_at, smaller, larger}
+use Rattle.std.specs.Prelude.{ℕ, suc, ◌+◌, ◌-◌, ◌/◌, ◌%◌, Bool, true, false, ◌&&◌, List, [], ◌∷◌, ◌++◌, length, take, drop, ◌==◌, nat_le, nat_lt}
+use Rattle.meaning.specs.Words.{pick, each, so_many, put_at, smaller, larger}
 
 -- graphic rendition: marks is 1 for bold, 2 for underlined and 4 for reverse video, added; fore and ground are the colours, 0 to 7, or 9 for the default
 pub record Style : Type 0 where

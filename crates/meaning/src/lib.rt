@@ -1,4 +1,6 @@
 // The definitions that a reader must believe (specs/), and the laws about them, each as the contract of a small function.
+#![tactic(auto)]
+
 mod answer;
 
 ghost use Rattle.meaning.specs.Laws.{InParts, Restored, OnAndBack, KeysGo, PictureLarge, Shared, StaysGood, StaysDrawable};

@@ -1,5 +1,7 @@
 // Bytes added at the end of what a lent row holds so far: its first n bytes count, and each function answers how many do then.
 // Where there is no room nothing changes, and n is the answer.
+#![tactic(auto)]
+
 ghost use Rattle.std.specs.Prelude.{◌≡◌, ◌+◌, ◌<◌, ◌≤◌, [], ◌∷◌, length};
 ghost use Rattle.meaning.specs.Bytes.{in_digits};
 ghost use Rattle.output.specs.Added.{Added, Unchanged};

@@ -1,4 +1,6 @@
 // A day played: what the machine writes goes to a screen of our own, which is written out at each `show`; the last line has the bytes sent and granted.
+#![tactic(auto)]
+
 use anyhow::anyhow;
 use days::{BadDay, Line, message, read_day};
 use player::{Player, says};

@@ -1,4 +1,6 @@
 // A day played: what the machine writes goes to a screen of our own, and is held to the bytes that the promise grants.
+#![tactic(auto)]
+
 mod count;
 mod fault;
 mod play;

@@ -1,5 +1,5 @@
 -- One go of drawing: what a terminal that shows one picture is sent so that it shows another, as far as there is room.
-use Rattle.std.specs.Prelude.{◌≡◌, ℕ, ◌+◌, ◌*◌, ◌/◌, ◌%◌, ◌≤◌, ◌&&◌, List, [], ◌∷◌, ◌++◌, length, drop, set, ◌==◌, nat_le, slice_index, slice_set}
+use Rattle.std.specs.Prelude.{◌≡◌, ℕ, ◌+◌, ◌*◌, ◌/◌, ◌%◌, ◌≤◌, ◌&&◌, List, [], ◌∷◌, ◌++◌, length, drop, ◌==◌, nat_le, slice_index, slice_set}
 use Rattle.meaning.specs.Words.{pick}
 use Rattle.grid.specs.declared.cell.Rendition.{Rendition}
 use Rattle.render.specs.declared.pen.Pen.{Pen}

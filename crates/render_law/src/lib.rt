@@ -1,4 +1,6 @@
 // What the layers above may use of drawing, whatever way the bytes are chosen: the writer's law, and that every screen can be drawn.
+#![tactic(auto)]
+
 ghost use Rattle.meaning.specs.Laws.{Drawn};
 ghost use Rattle.render_law.specs.Law.{WriterLaw};
 

@@ -1,4 +1,6 @@
 // One thing that comes, served: the machine is told it, and then to go on, until it waits; what it does on the way is kept in a log.
+#![tactic(auto)]
+
 mod acts;
 mod coming;
 mod note;

@@ -1,4 +1,6 @@
 // The screen: bytes from standard input on a terminal of COLUMNS by ROWS, which is written out at the end.
+#![tactic(auto)]
+
 use anyhow::anyhow;
 use grid::size::Size;
 use shown::screen::Unwritten;

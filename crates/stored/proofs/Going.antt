@@ -1,15 +1,15 @@
 -- What every state that can come about holds, also while sizes change, and that each thing that comes keeps it.
-use Rattle.std.proofs.Common.{◌≡◌, ℕ, zero, suc, ◌+◌, ◌-◌, ◌*◌, ◌%◌, ◌^◌, ◌<◌, ◌≤◌, Bool, true, false, not, ◌&&◌, eqb, ltb, leb, List, [], ◌∷◌, ◌++◌, length, sym, refl, ap, ◌∙◌, subst, mod-lt, arith}
+use Rattle.std.proofs.Common.{◌≡◌, ℕ, suc, ◌+◌, ◌-◌, ◌%◌, ◌^◌, ◌<◌, ◌≤◌, Bool, true, false, ◌&&◌, eqb, ltb, leb, List, [], ◌∷◌, length, refl, mod-lt, arith}
 use Rattle.std.specs.List.{AllByRecursion as All}
 use Rattle.std.proofs.ByRecursion.{All-append}
-use Rattle.std.proofs.lemmas.Bool.{cond_both, and_parts, leb-true, leb-false}
-use Rattle.meaning.specs.Words.{pick, or, those, none_of, larger}
-use Rattle.meaning.specs.Panes.{Glass, Place, Pane, Turn, turn_of, Event, key, from, gone, attach, with_panes, with_windows, with_prefix, numbered, all_places, place_in, begin_pane, place_of_focus, large_enough, other_pane, pane_of, on_bytes, pane_wide, pane_high}
+use Rattle.std.proofs.lemmas.Bool.{cond_both, leb-false}
+use Rattle.meaning.specs.Words.{or, none_of, larger}
+use Rattle.meaning.specs.Panes.{Glass, Place, Pane, Turn, Event, key, from, gone, attach, with_windows, with_prefix, numbered, all_places, place_in, begin_pane, place_of_focus, large_enough, other_pane, pane_of, on_bytes}
 use Rattle.meaning.specs.Promise.{proper_event}
 use Rattle.meaning.proofs.Controls.{pick_both}
 use Rattle.windows.specs.Invariants.{Sane}
-use Rattle.windows.specs.Parts.{without_pane, begun_part, new_window_part, split_part, next_window, previous_window, left, looked, command_part, part}
-use Rattle.windows.proofs.Sane.{sane_same, sane_part}
+use Rattle.windows.specs.Parts.{begun_part, new_window_part, split_part, next_window, previous_window, left, looked, command_part, part}
+use Rattle.windows.proofs.Sane.{sane_same}
 use Rattle.engine.proofs.Good.{ProperSize, proper_size}
 use Rattle.stored.proofs.Terminals.{PaneGood, SmallPlace, places_small, those_all, fresh_good, bytes_good}
 

@@ -1,16 +1,15 @@
 -- The states that can come about: while sizes change, and at rest. Memory has room for them.
-use Rattle.std.proofs.Common.{◌≡◌, ℕ, zero, suc, ◌+◌, ◌*◌, ◌^◌, ◌<◌, ◌≤◌, Bool, true, false, eqb, ◌⊎◌, List, [], ◌∷◌, ◌++◌, length, sym, refl, ap, ◌∙◌, subst, inl, inr, arith, length-append}
+use Rattle.std.proofs.Common.{◌≡◌, ℕ, suc, ◌+◌, ◌^◌, ◌<◌, ◌≤◌, Bool, true, false, ◌⊎◌, List, [], ◌∷◌, ◌++◌, length, sym, refl, ap, ◌∙◌, subst, inl, inr, arith, length-append}
 use Rattle.std.specs.List.{AllByRecursion as All}
 use Rattle.std.proofs.ByRecursion.{All-weaker}
 use Rattle.std.proofs.lemmas.Bool.{cases_Bool, cases_lt, eq-eqb}
-use Rattle.meaning.specs.Words.{pick, each, flat}
 use Rattle.meaning.specs.Panes.{Glass, Window, Place, Pane, Event, key, from, gone, attach, Says, ids, with_panes, pane_fitted, size_told, fit_places, all_places, settled, turn}
 use Rattle.meaning.specs.Promise.{proper_event}
 use Rattle.grid.specs.Cells.{cells_of}
-use Rattle.windows.specs.Counting.{times, place_ids, pane_ids, glass_ids}
+use Rattle.windows.specs.Counting.{times, pane_ids, glass_ids}
 use Rattle.windows.specs.Invariants.{Sane, Focused}
 use Rattle.windows.specs.Settling.{unfit, first_unfit, AtRest, fit_one}
-use Rattle.windows.specs.Cells.{pane_cells, cells_to_come, SmallScreen}
+use Rattle.windows.specs.Cells.{pane_cells, SmallScreen}
 use Rattle.windows.specs.Parts.{part}
 use Rattle.windows.proofs.Ids.{times_append}
 use Rattle.windows.proofs.Settle.{same_ids}
@@ -18,12 +17,12 @@ use Rattle.windows.proofs.Sane.{sane_panes, sane_part, fit_keeps}
 use Rattle.windows.proofs.Turns.{places_once, panes_once, sane_turn, rests_turn, part_settles}
 use Rattle.windows.proofs.Sums.{cells_rest, cells_most}
 use Rattle.windows.proofs.Growth.{weight, cells_fitted, to_come_falls, to_come_none}
-use Rattle.windows.proofs.PartCells.{part_grows, small_part}
-use Rattle.engine.specs.State.{View, State, state, fresh_view, view_at}
+use Rattle.windows.proofs.PartCells.{part_grows}
+use Rattle.engine.specs.State.{View, state, view_at}
 use Rattle.engine.proofs.Machine.{Viewed}
 use Rattle.engine.proofs.Good.{fresh_viewed, proper_size}
 use Rattle.stored.specs.Many.{all_cells}
-use Rattle.stored.specs.Laws.{WindowKept, PaneKept, GlassKept, Storable}
+use Rattle.stored.specs.Laws.{WindowKept, PaneKept, Storable}
 use Rattle.stored.proofs.Areas.{cells_room_is}
 use Rattle.stored.proofs.Kept.{pane_kept, view_kept}
 use Rattle.stored.proofs.Terminals.{PaneGood, SmallPlace, places_small, fit_good}

@@ -1,16 +1,15 @@
 -- What is kept of each pane's terminal by all that can come: it is sound at its size, its cells can be drawn, and its numbers are small.
-use Rattle.std.proofs.Common.{◌≡◌, ℕ, zero, suc, ◌+◌, ◌-◌, ◌^◌, ◌<◌, ◌≤◌, Bool, true, false, eqb, List, [], ◌∷◌, ◌++◌, sym, refl, ◌∙◌, subst, arith}
+use Rattle.std.proofs.Common.{◌≡◌, ℕ, zero, suc, ◌^◌, ◌≤◌, Bool, eqb, List, [], ◌∷◌, refl, arith}
 use Rattle.std.specs.List.{AllByRecursion as All}
 use Rattle.std.proofs.ByRecursion.{All-append}
-use Rattle.meaning.specs.Words.{pick, each, those, flat}
+use Rattle.meaning.specs.Words.{each, those, flat}
 use Rattle.meaning.specs.Screen.{Term, fresh, fitted, with_answer}
 use Rattle.meaning.specs.Bytes.{written}
-use Rattle.meaning.specs.Panes.{Glass, Window, Place, Pane, Rect, places, set_term, pane_wide, pane_high, pane_fitted, room, all_places, place_in, pane_of, on_bytes}
+use Rattle.meaning.specs.Panes.{Glass, Window, Place, Pane, Rect, places, set_term, pane_wide, pane_high, pane_fitted, room, all_places, on_bytes}
 use Rattle.meaning.proofs.Controls.{pick_both}
 use Rattle.meaning.proofs.Sound.{Sound, sound_written, sound_fitted, sound_fresh}
 use Rattle.meaning.proofs.Readings.{held_written}
 use Rattle.meaning.proofs.Drawable.{Fine, fine_written, fine_fresh, fine_fitted, fine_answer}
-use Rattle.windows.proofs.Settle.{fit_pane}
 use Rattle.engine.proofs.Good.{Reads, fitted_reads, fresh_reads}
 use Rattle.engine.proofs.Pictures.{In, in_self, places_in}
 

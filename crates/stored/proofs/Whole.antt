@@ -1,13 +1,12 @@
 -- The whole promise of the machine for several windows and panes, whatever keys after the prefix are known.
-use Rattle.std.proofs.Common.{◌≡◌, ℕ, zero, suc, ◌+◌, ◌*◌, ◌^◌, ◌<◌, ◌≤◌, Bool, true, false, not, ◌&&◌, eqb, ltb, leb, ◌⊎◌, List, [], ◌∷◌, ◌++◌, length, sym, refl, ap, ◌∙◌, subst, inl, inr, arith, length-append}
+use Rattle.std.proofs.Common.{◌≡◌, ℕ, ◌+◌, ◌^◌, ◌≤◌, Bool, true, false, not, ◌&&◌, ltb, leb, ◌⊎◌, List, [], ◌∷◌, ◌++◌, length, sym, refl, ap, ◌∙◌, subst, inl, inr, arith}
 use lib.ListN.{length-replicate}
-use Rattle.std.specs.List.{AllByRecursion as All}
 use Rattle.std.proofs.ByRecursion.{All-weaker}
 use Rattle.std.proofs.lemmas.Bool.{cases_Bool, cond-true, cond-false}
 use Rattle.meaning.specs.Words.{pick, or, every, so_many, none_of}
 use Rattle.meaning.specs.Screen.{Term, fresh}
 use Rattle.meaning.specs.Panes.{Glass, Window, pane, Place, Event, attach, Turn, turn, numbered, with_windows, begin_pane, all_places, settled, at_first}
-use Rattle.meaning.specs.Promise.{Engine, ToldIt, next, Step, wait, everything, proper_event, all_small, Steady, Right, Whole}
+use Rattle.meaning.specs.Promise.{ToldIt, next, Step, wait, proper_event, all_small, Steady, Right, Whole}
 use Rattle.meaning.specs.Leaving.{glass_after, Through, Any, Silent, Seen, ComesBack}
 use Rattle.meaning.proofs.Drawable.{Fine}
 use Rattle.windows.specs.Counting.{times, place_ids, pane_ids, glass_ids}
@@ -17,13 +16,13 @@ use Rattle.windows.specs.Parts.{looked, attach_part, part}
 use Rattle.windows.proofs.Sane.{sane_first, fit_keeps}
 use Rattle.windows.proofs.Turns.{places_once, panes_once, part_settles}
 use Rattle.render_law.proofs.Law.{writer_law}
-use Rattle.engine.specs.State.{View, State, Out, state, fresh_view, looks, going, proper_told, kept, machine_by}
+use Rattle.engine.specs.State.{View, state, fresh_view, looks, going, proper_told, kept, machine_by}
 use Rattle.engine.specs.Settling.{stepped_on}
 use Rattle.engine.specs.Memory.{memory_size}
 use Rattle.engine.proofs.Start.{all_zero}
 use Rattle.engine.proofs.Maps.{placed}
-use Rattle.engine.proofs.Machine.{Pictured, Viewed, Holds, EventRuns, all_right, all_through, all_silent, attach_seen}
-use Rattle.engine.proofs.Pictures.{GlassOk, pictured_any}
+use Rattle.engine.proofs.Machine.{Pictured, Viewed, EventRuns, all_right, all_through, all_silent, attach_seen}
+use Rattle.engine.proofs.Pictures.{pictured_any}
 use Rattle.engine.proofs.Good.{fresh_viewed}
 use Rattle.engine.proofs.Settles.{good_room, good_fit, good_back, next_is, settling_event_runs}
 use Rattle.stored.specs.Many.{many_fits, many_decode, many_encode}

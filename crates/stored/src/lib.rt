@@ -1,4 +1,6 @@
 // How the state of several windows and panes is kept in the machine's memory (specs/Many.antt), and what is proved of it.
+#![tactic(auto)]
+
 ghost use Rattle.meaning.specs.Leaving.{ComesBack};
 ghost use Rattle.meaning.specs.Promise.{Whole, everything};
 ghost use Rattle.stored.specs.Laws.{ManyBack, ManyFit, LengthMany, SmallMany, ManyZero, ManyRefuses, ManyRoom};

@@ -1,11 +1,9 @@
 -- The loop over bytes: what is left, from the state so far, gives the whole.
-use Rattle.std.proofs.Common.{◌≡◌, ℕ, ◌+◌, ◌-◌, ◌*◌, ◌<◌, ◌≤◌, List, [], ◌∷◌, length, get_or, take, drop, sym, refl, ap, ◌∙◌, arith}
+use Rattle.std.proofs.Common.{◌≡◌, ℕ, ◌+◌, ◌-◌, ◌*◌, ◌<◌, ◌≤◌, List, [], length, get_or, take, drop, sym, refl, ap, ◌∙◌, arith}
 use Rattle.std.proofs.lemmas.List.{at_drop_more, at_drop_all, drop-drop}
-use Rattle.std.proofs.lemmas.Bool.Decides.{nat_tests}
 use Rattle.meaning.specs.Screen.{Term}
 use Rattle.meaning.specs.Bytes.{byte, written}
-use Rattle.meaning.proofs.Sound.{Sound, AsWide, rows_decide, sound_byte}
-use Rattle.grid.specs.Cells.{rows_of}
+use Rattle.meaning.proofs.Sound.{Sound, rows_decide, sound_byte}
 use Rattle.grid.proofs.Regions.{length_rows, rows_wide}
 use Rattle.terminal.specs.Terms.{term_on}
 use Rattle.terminal.specs.Answer.{Behind, Fed}

@@ -1,6 +1,6 @@
 -- Which part of the decision over bytes a byte comes to.
 use Rattle.std.proofs.Common.{◌≡◌, ℕ, ◌-◌, ◌<◌, ◌≤◌, Bool, true, false, not, ◌&&◌, eqb, ltb, leb, ◌⊎◌, List, [], ◌∷◌, ◌++◌, take, refl, inl, inr, arith}
-use Rattle.std.proofs.lemmas.Bool.{ne_eqb, eq-eqb, lt-leb, le-leb, lt-ltb, le-ltb}
+use Rattle.std.proofs.lemmas.Bool.{ne_eqb, lt-leb, le-leb, lt-ltb, le-ltb}
 use Rattle.meaning.specs.Words.{pick, none_of}
 use Rattle.meaning.specs.Screen.{Term, Reading, with_reading, sequence, passed, escape}
 use Rattle.meaning.specs.Bytes.{low_byte, is_string, control, back_to_ground, byte_of_sequence, done_sequence, all_numbers, byte, byte_read, add_digit, ended}

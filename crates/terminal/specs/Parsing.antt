@@ -1,5 +1,5 @@
 -- The parser's next state, for bytes that change nothing else.
-use Rattle.std.specs.Prelude.{ℕ, ◌-◌, Bool, true, false, not, ◌&&◌, List, [], ◌∷◌, ◌++◌, take, ◌==◌, nat_le}
+use Rattle.std.specs.Prelude.{ℕ, ◌-◌, Bool, true, not, ◌&&◌, List, [], ◌∷◌, ◌++◌, take, ◌==◌, nat_le}
 use Rattle.meaning.specs.Words.{pick, none_of}
 use Rattle.meaning.specs.Screen.{Reading, ground_state, sequence, passed, string, string_end}
 use Rattle.meaning.specs.Bytes.{add_digit, ended}

@@ -1,5 +1,5 @@
 -- One number of SGR, part by part.
-use Rattle.std.specs.Prelude.{ℕ, ◌+◌, ◌-◌, Bool, ◌&&◌, ◌==◌, nat_le}
+use Rattle.std.specs.Prelude.{ℕ, ◌+◌, ◌-◌, ◌&&◌, ◌==◌, nat_le}
 use Rattle.meaning.specs.Words.{pick, or}
 use Rattle.meaning.specs.Screen.{bit_on, bit_off}
 

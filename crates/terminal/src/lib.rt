@@ -1,4 +1,6 @@
 // A terminal: the parser of bytes and every control function, over a state by value and cells in lent memory.
+#![tactic(auto)]
+
 mod csi;
 mod cursor;
 mod edit;

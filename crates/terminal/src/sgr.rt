@@ -43,11 +43,7 @@ pub(crate) fn change(r: Rendition, n: u64) -> Rendition
     let marks = marks_after(r.marks, n);
     let fore = colour_after(30, r.fore, n);
     let back = colour_after(40, r.back, n);
-    Rendition {
-        marks,
-        fore,
-        back,
-    }
+    Rendition { marks, fore, back }
 }
 
 pub(crate) fn select_graphic_rendition(start: Rendition, numbers: &[u16]) -> Rendition

@@ -1,4 +1,6 @@
 // The terminal for callers from C: bytes written on a screen whose cells the caller lends.
+#![tactic(auto)]
+
 ghost use Rattle.terminal_c.specs.Wrote.{Wrote};
 
 use grid::size::Size;

@@ -1,3 +1,5 @@
+#![tactic(auto)]
+
 // The terminal on examples: bytes, and the screen that they leave, written out. Each is worked out from docs/TERMINAL.md.
 #[cfg(test)]
 mod tests {

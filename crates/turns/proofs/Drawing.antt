@@ -1,9 +1,8 @@
 -- One go of drawing over the machine's memory, and what is left if nothing was sent.
-use Rattle.std.proofs.Common.{◌≡◌, ℕ, ◌+◌, ◌*◌, ◌<◌, ◌≤◌, Bool, true, false, ◌⊎◌, List, [], ◌∷◌, ◌++◌, length, take, drop, Some, sym, refl, ap, ◌∙◌, subst, inl, inr, arith, length-drop, length-take}
+use Rattle.std.proofs.Common.{◌≡◌, ℕ, ◌*◌, ◌<◌, Bool, true, List, ◌++◌, length, take, drop, Some, sym, ap, ◌∙◌, subst, inl, inr, arith, length-drop, length-take}
 use Rattle.std.proofs.lemmas.Bool.{cases_lt}
 use Rattle.meaning.specs.Panes.{Glass}
 use Rattle.meaning.specs.Picture.{picture}
-use Rattle.meaning.specs.Promise.{write}
 use Rattle.meaning.specs.Entry.{ActTold}
 use Rattle.meaning.specs.declared.answer.Told.{Told}
 use Rattle.meaning.specs.declared.answer.Told.TheVariants.{Write}
@@ -16,7 +15,7 @@ use Rattle.render_law.specs.Law.{differing}
 use Rattle.render_law.proofs.Law.{writer_law}
 use Rattle.render_law.proofs.Counts.{drawn_sends, drawn_stays}
 use Rattle.engine.specs.Areas.{part, over}
-use Rattle.engine.specs.State.{View, Out, state, out, drawing, after_drawing, looks, going}
+use Rattle.engine.specs.State.{Out, state, drawing, after_drawing, looks, going}
 use Rattle.engine.specs.Memory.{memory_size, screen_at, encode}
 use Rattle.engine.proofs.Maps.{placed}
 use Rattle.machine.specs.States.{terminal_in, glass_of, view_of, state_of}

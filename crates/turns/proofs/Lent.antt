@@ -1,13 +1,13 @@
 -- Parts of memory and of rows as they are lent.
-use Rattle.std.proofs.Common.{◌≡◌, ℕ, ◌+◌, ◌-◌, ◌*◌, ◌≤◌, List, [], ◌∷◌, ◌++◌, length, take, drop, sym, refl, ap, ◌∙◌, subst, mul-le-mul, arith, length-append, length-drop, length-take}
+use Rattle.std.proofs.Common.{◌≡◌, ℕ, ◌+◌, ◌-◌, ◌*◌, ◌≤◌, List, ◌++◌, length, take, drop, sym, ap, ◌∙◌, subst, mul-le-mul, arith, length-take}
 use borrow.Rule.Slice.PartMut.{put_mid}
-use Rattle.std.proofs.lemmas.List.{take_at, drop_at, drop-drop, append_assoc, take-append-drop, take-append-le, drop-append-le, drop-take}
+use Rattle.std.proofs.lemmas.List.{append_assoc, take-append-drop, drop-append-le}
 use Rattle.grid.specs.declared.size.Size.{Size}
 use Rattle.render.specs.declared.pen.Pen.{Pen}
 use Rattle.render.specs.Draw.{Go, Drew, drawn}
 use Rattle.machine.proofs.Stays.{lent_over}
 use Rattle.meaning.specs.Picture.{Spot}
-use Rattle.render.specs.Finish.{Finish, Finished, finished}
+use Rattle.render.specs.Finish.{Finished, finished}
 use Rattle.turns.specs.Sent.{Sent, Closed, closing_at}
 use Rattle.engine.specs.Areas.{part, over}
 use Rattle.engine.specs.Memory.{cells_at}

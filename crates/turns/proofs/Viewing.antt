@@ -1,20 +1,18 @@
 -- The viewer's cells and pen changed where they stand, and the rest of the state as it was.
-use Rattle.std.proofs.Common.{◌≡◌, ℕ, ◌+◌, ◌*◌, ◌≤◌, Bool, true, false, List, [], ◌∷◌, ◌++◌, length, take, drop, Some, None, Option, sym, refl, ap, ◌∙◌, subst, arith, length-drop, length-take}
+use Rattle.std.proofs.Common.{◌≡◌, ℕ, ◌*◌, ◌≤◌, List, [], ◌∷◌, length, drop, Some, None, Option, sym, refl, ap, ◌∙◌, arith, length-drop, length-take}
 use Rattle.meaning.specs.Screen.{Term}
 use Rattle.meaning.specs.Panes.{Pane}
 use Rattle.grid.specs.Cells.{rows_of, cells_of}
-use Rattle.grid.specs.declared.size.Size.{Size}
 use Rattle.grid.proofs.Codes.{cells_of_rows}
 use Rattle.terminal.specs.Terms.{term_of}
-use Rattle.terminal.specs.declared.state.Terminal.{Terminal}
 use Rattle.render.specs.declared.pen.Pen.{Pen}
 use Rattle.engine.specs.Areas.{part, over}
-use Rattle.engine.specs.State.{View, State, state}
+use Rattle.engine.specs.State.{State, state}
 use Rattle.engine.specs.Memory.{memory_size, screen_at, cells_at, encode}
 use Rattle.engine.proofs.Areas.{part_over, part_over_above}
 use Rattle.engine.proofs.Maps.{placed}
 use Rattle.engine.proofs.Rewrites.{encode_screen}
-use Rattle.machine.specs.States.{terminal_in, panes_of, windows_of, glass_of, view_of, state_of}
+use Rattle.machine.specs.States.{terminal_in, panes_of, glass_of, state_of}
 use Rattle.machine.specs.declared.state.Held.{Held}
 use Rattle.machine.specs.declared.state.Machine.{Machine}
 use Rattle.turns.proofs.Lent.{few_cells}

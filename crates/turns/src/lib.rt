@@ -1,4 +1,6 @@
 // What the machine does in one step, over its memory: each turn leaves the memory and tells the act that the definition has.
+#![tactic(auto)]
+
 pub mod ends;
 pub mod keys;
 pub mod show;

@@ -1,4 +1,6 @@
 // A worked example of the plain glass with several windows and panes, in one table, proved from the definitions.
+#![tactic(auto)]
+
 ghost use Rattle.watch.specs.Watch.{TheWatch, TheSight};
 
 // To each thing that comes in the table of specs/Watch.antt the plain glass says what stands beside it.

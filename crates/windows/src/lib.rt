@@ -1,4 +1,6 @@
 // What always holds of windows and panes, and how a turn is done in parts: one thing that comes, then one pane at a time.
+#![tactic(auto)]
+
 ghost use Rattle.windows.specs.Invariants.{KeepsSane};
 ghost use Rattle.windows.specs.Settling.{SettlesBySteps};
 ghost use Rattle.windows.specs.Parts.{PartSettles, StaysAtRest};

@@ -1,5 +1,4 @@
 use Rattle.std.proofs.Common.{sym, ◌∙◌}
-use Rattle.std.proofs.lemmas.Bool.{not-false, not-true}
 use Rattle.engine.proofs.Whole.{whole_detaching}
 use Rattle.live.proofs.Stepping.{fits_long, no_says, goes_says, rests_not}
 use Rattle.live.proofs.step.Goals as goal

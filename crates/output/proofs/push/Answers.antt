@@ -1,4 +1,4 @@
-use Rattle.std.proofs.Common.{arith, rules}
+use Rattle.std.proofs.Common.{arith}
 use Rattle.output.proofs.Adding.{one_added}
 use Rattle.output.proofs.push.Goals as goal
 

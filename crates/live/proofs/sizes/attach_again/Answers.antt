@@ -1,4 +1,4 @@
-use Rattle.std.proofs.Common.{◌≡◌, ◌&&◌, eqb, sym, ◌∙◌}
+use Rattle.std.proofs.Common.{◌&&◌, eqb, sym, ◌∙◌}
 use Rattle.live.proofs.Looking.{same_does}
 use Rattle.live.proofs.sizes.attach_again.Goals as goal
 

@@ -1,8 +1,7 @@
-use Rattle.std.proofs.Common.{◌≡◌, ℕ, ◌+◌, ◌*◌, [], length, sym, refl, ap, ◌∙◌, arith}
+use Rattle.std.proofs.Common.{◌≡◌, ◌+◌, ◌*◌, [], length, sym, refl, ap, ◌∙◌, arith}
 use Rattle.std.proofs.lemmas.Bool.{both_ways}
 use Rattle.meaning.specs.Screen.{fresh}
 use Rattle.grid.specs.declared.size.Size.{Size}
-use Rattle.terminal.specs.Terms.{term_on}
 use Rattle.machine.proofs.Stays.{lent_over}
 use Rattle.live.proofs.Going.{stored_done}
 use Rattle.live.proofs.Sized.{lent_long, lent_on}

@@ -1,4 +1,4 @@
-use Rattle.std.proofs.Common.{◌≡◌, ℕ, ◌+◌, ◌*◌, [], sym, refl, ap, ◌∙◌, arith}
+use Rattle.std.proofs.Common.{ℕ, ◌+◌, ◌*◌, [], sym, refl, ap, ◌∙◌, arith}
 use Rattle.meaning.specs.Screen.{fitted}
 use Rattle.terminal.specs.Terms.{term_on}
 use Rattle.engine.specs.Areas.{part}

@@ -1,4 +1,4 @@
-use Rattle.std.proofs.Common.{◌≡◌, true, sym, refl, ◌∙◌, subst, arith}
+use Rattle.std.proofs.Common.{◌≡◌, true, sym, subst, arith}
 use Rattle.meaning.specs.Promise.{ToldIt}
 use Rattle.engine.specs.State.{proper_told}
 use Rattle.live.specs.Means.{Means}

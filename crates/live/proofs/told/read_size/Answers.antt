@@ -1,4 +1,4 @@
-use Rattle.std.proofs.Common.{◌≡◌, sym, arith}
+use Rattle.std.proofs.Common.{sym, arith}
 use Rattle.meaning.specs.Panes.{attach}
 use Rattle.meaning.specs.Promise.{comes}
 use Rattle.live.proofs.Telling.{proper_size, low_size, odd_size}

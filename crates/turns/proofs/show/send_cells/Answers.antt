@@ -1,4 +1,4 @@
-use Rattle.std.proofs.Common.{◌≡◌, ◌+◌, ◌-◌, length, take, drop, sym, ◌∙◌, arith, length-drop, length-take}
+use Rattle.std.proofs.Common.{◌≡◌, ◌+◌, ◌-◌, length, take, drop, ◌∙◌, arith, length-drop, length-take}
 use Rattle.turns.proofs.Lent.{few_cells, sent_go}
 use Rattle.turns.proofs.show.send_cells.Goals as goal
 

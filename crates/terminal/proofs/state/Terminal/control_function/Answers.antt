@@ -1,4 +1,4 @@
-use Rattle.std.proofs.Common.{◌≡◌, ℕ, ◌+◌, ◌-◌, ◌⊎◌, ap, ◌∙◌, inl, inr}
+use Rattle.std.proofs.Common.{ℕ, ◌+◌, ◌-◌, ap, ◌∙◌, inl, inr}
 use Rattle.meaning.specs.Words.{smaller}
 use Rattle.meaning.specs.Screen.{change_row, opened, closed, wiped, goes_up, goes_down, goes_to, at, lines_in, lines_out, up_by, down_by, region}
 use Rattle.meaning.specs.Bytes.{one_of}

@@ -1,7 +1,6 @@
-use Rattle.std.proofs.Common.{◌≡◌, take, refl, ap, ◌∙◌, arith}
-use Rattle.meaning.specs.Bytes.{answers}
+use Rattle.std.proofs.Common.{take, refl, arith}
 use Rattle.terminal.specs.Terms.{term_on}
-use Rattle.terminal.proofs.Finals.{final, private_final, public_final}
+use Rattle.terminal.proofs.Finals.{private_final}
 use Rattle.terminal.proofs.state.Terminal.dispatch.Goals as goal
 
 pub returns-in-104 : goal.returns-in-104

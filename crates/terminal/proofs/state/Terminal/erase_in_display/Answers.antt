@@ -1,5 +1,4 @@
-use Rattle.std.proofs.Common.{◌≡◌, sym, ap, ◌∙◌, arith, rules}
-use Rattle.std.proofs.lemmas.Bool.Decides.{nat_tests}
+use Rattle.std.proofs.Common.{ap, rules}
 use Rattle.meaning.specs.Screen.{Term}
 use Rattle.grid.specs.Cells.{rows_of}
 use Rattle.grid.proofs.Regions.{length_rows}

@@ -1,4 +1,4 @@
-use Rattle.std.proofs.Common.{◌≡◌, suc, ◌+◌, sym, add-one, rules}
+use Rattle.std.proofs.Common.{◌≡◌, suc, ◌+◌, add-one, rules}
 use Rattle.terminal.proofs.state.Terminal.erase_in_line.Goals as goal
 
 pub returns-in-1 : goal.returns-in-1

@@ -1,4 +1,3 @@
-use Rattle.std.proofs.Common.{◌≡◌}
 use Rattle.terminal.specs.Terms.{term_on}
 use Rattle.terminal.proofs.Finals.{escape_final}
 use Rattle.terminal.proofs.state.Terminal.escape_function.Goals as goal

@@ -1,4 +1,4 @@
-use Rattle.std.proofs.Common.{◌≡◌, sym, ◌∙◌, arith, rules}
+use Rattle.std.proofs.Common.{arith, rules}
 use Rattle.std.proofs.lemmas.Bool.Decides.{nat_tests}
 use Rattle.terminal.proofs.Feeding.{feeding_more, feeding_all}
 use Rattle.terminal.proofs.state.Terminal.feed.Goals as goal

@@ -1,4 +1,4 @@
-use Rattle.std.proofs.Common.{◌≡◌, take, sym, refl, ◌∙◌, arith}
+use Rattle.std.proofs.Common.{take, sym, refl, ◌∙◌, arith}
 use Rattle.terminal.specs.Terms.{term_on}
 use Rattle.terminal.proofs.Lows.{byte_low, byte_delete, byte_high}
 use Rattle.terminal.proofs.state.Terminal.feed_byte.Goals as goal

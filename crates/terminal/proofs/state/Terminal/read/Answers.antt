@@ -1,4 +1,4 @@
-use Rattle.std.proofs.Common.{◌≡◌, take, sym, ◌∙◌}
+use Rattle.std.proofs.Common.{take, sym, ◌∙◌}
 use Rattle.terminal.specs.Terms.{term_on}
 use Rattle.terminal.proofs.Lows.{sequence_read}
 use Rattle.terminal.proofs.state.Terminal.read.Goals as goal

@@ -1,4 +1,4 @@
-use Rattle.std.proofs.Common.{◌≡◌, ℕ, ap, rules}
+use Rattle.std.proofs.Common.{ap}
 use Rattle.meaning.specs.Screen.{Term, at}
 use Rattle.terminal.proofs.state.Terminal.wrap.Goals as goal
 
