@@ -16,20 +16,20 @@ acts: build
 
 # The screens of a day, and how many bytes they took.
 play:
-	rt check play_day
+	tools/build play_day
 	target/bin/play_day $(DAY)
 
 build:
-	rt check act_day
+	tools/build act_day
 
 # What the programs write for each day, held to the files beside it; `days/check --write` writes these anew.
 days:
-	rt check act_day play_day
+	tools/build act_day play_day
 	days/check
 
 # A screen written out, on an example.
 show:
-	rt check show_screen
+	tools/build show_screen
 	printf 'ahoy\r\n$$ \033[7mlamp\033[m' | target/bin/show_screen 20 5
 
 # No test: how fast the terminal is, and how much time the program takes beside others.
@@ -43,8 +43,7 @@ soak:
 
 # The program is tested twice, once with the compiler's checks. The last line is that of `rt ci`, which begins from nothing.
 test:
-	rt fmt --check
 	$(MAKE) -C second test gate
 	$(MAKE) days
 	$(MAKE) -C host test asan
-	rt ci
+	tools/prove
