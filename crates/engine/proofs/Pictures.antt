@@ -1,7 +1,7 @@
 -- The picture of any glass, with any layouts: as wide as the screen, in cells that can be drawn; and its cursor is on it.
 use Rattle.std.proofs.Common.{◌≡◌, ℕ, zero, suc, ◌+◌, ◌-◌, ◌*◌, ◌^◌, ◌<◌, ◌≤◌, min, Bool, true, false, ◌&&◌, eqb, ltb, leb, List, [], ◌∷◌, ◌++◌, map, length, take, drop, sym, refl, ap, ◌∙◌, inl, inr, arith, length-append, length-drop, length-take}
 use lib.ListN.{length-replicate}
-use Rattle.std.specs.List.{AllByRecursion as All}
+use Rattle.std.specs.List.{AllByRecursion}
 use Rattle.std.proofs.ByRecursion.{All-append, All-take, All-drop, All-weaker}
 use Rattle.std.proofs.lemmas.Bool.{cases_eq, cond_both, and_parts, and_from, ltb-true, leb-true, lt-ltb}
 use Rattle.std.proofs.lemmas.Bool.Decides.{nat_tests}
@@ -42,7 +42,7 @@ in-upper r s i = record { right = i.right; down = λ h. (let z = i.down (omega a
 in-lower : (r s : Rect) → In r s → In (lower_of r) s
 in-lower r s i = record { right = i.right; down = λ h. (let z = i.down (omega arith) in omega arith) }
 
-pub places_in : (l : Layout) (r s : Rect) → In r s → All (λ q. In q.rect s) (places l r)
+pub places_in : (l : Layout) (r s : Rect) → In r s → AllByRecursion (λ q. In q.rect s) (places l r)
 unfolding places
 places_in (pane i) r s h = (h, tt)
 places_in (beside a b) r s h = All-append (λ q. In q.rect s) _ _ (places_in a (left_of r) s (in_left r s h)) (places_in b (right_of r) s (in_right r s h))
@@ -78,57 +78,57 @@ put_row_ok w x n c r p k o =
     long zero k m a b d e = let l = o.wide in omega arith
     long (suc n) k m a b d e = let l = o.wide in let z = k (omega arith) in omega arith
 
-row_ok_at : (w : ℕ) (rs : Rows) (y : ℕ) (f : List Cell → List Cell) → ((r : List Cell) → RowOk w r → RowOk w (f r)) → All (RowOk w) rs → All (RowOk w) (put_at rs y (f (row_at rs y)))
+row_ok_at : (w : ℕ) (rs : Rows) (y : ℕ) (f : List Cell → List Cell) → ((r : List Cell) → RowOk w r → RowOk w (f r)) → AllByRecursion (RowOk w) rs → AllByRecursion (RowOk w) (put_at rs y (f (row_at rs y)))
 row_ok_at w [] y f h l = tt
 row_ok_at w (r ∷ rs) zero f h l = (h r l.0, l.1)
 row_ok_at w (r ∷ rs) (suc y) f h l = (l.0, row_ok_at w rs y f h l.1)
 
-pub put_rows_ok : (w n x y : ℕ) (cs rs : Rows) → All (PartOk n) cs → (0 < n → x + n ≤ w) → All (RowOk w) rs → All (RowOk w) (put_rows x y cs rs)
+pub put_rows_ok : (w n x y : ℕ) (cs rs : Rows) → AllByRecursion (PartOk n) cs → (0 < n → x + n ≤ w) → AllByRecursion (RowOk w) rs → AllByRecursion (RowOk w) (put_rows x y cs rs)
 unfolding put_rows
 put_rows_ok w n x y [] rs m k l = l
 put_rows_ok w n x y (c ∷ cs) rs m k l = put_rows_ok w n x (suc y) cs _ m.1 k (row_ok_at w rs y (put_row x c) (λ r o. put_row_ok w x n c r m.0 k o) l)
 
 -- as much of a pane as there is room for
-cut_ok : (n : ℕ) (rs : Rows) → All FineRow rs → All (PartOk n) (each (take n) rs)
+cut_ok : (n : ℕ) (rs : Rows) → AllByRecursion FineRow rs → AllByRecursion (PartOk n) (each (take n) rs)
 cut_ok n [] f = tt
 cut_ok n (r ∷ rs) f = (record { most = (let z = length-take n r in omega arith); fine = All-take (λ c. fine_cell c ≡ true) n r f.0 }, cut_ok n rs f.1)
 
-one_ok : (s : Rect) (q : Place) (ps : List Pane) (rs : Rows) → s.x ≡ 0 → In q.rect s → All (λ p. Fine p.term) ps → All (RowOk s.wide) rs → All (RowOk s.wide) (draw_one q ps rs)
+one_ok : (s : Rect) (q : Place) (ps : List Pane) (rs : Rows) → s.x ≡ 0 → In q.rect s → AllByRecursion (λ p. Fine p.term) ps → AllByRecursion (RowOk s.wide) rs → AllByRecursion (RowOk s.wide) (draw_one q ps rs)
 one_ok s q [] rs z i f l = l
 one_ok s q (p ∷ ps) rs z i f l =
     put_rows_ok s.wide q.rect.wide q.rect.x q.rect.y _ rs (cut_ok q.rect.wide _ (All-take FineRow q.rect.high p.term.rows f.0.cells)) (λ h. let y = i.right h in omega arith) l
 
-those_fine : (b : Pane → Bool) (ps : List Pane) → All (λ p. Fine p.term) ps → All (λ p. Fine p.term) (those b ps)
+those_fine : (b : Pane → Bool) (ps : List Pane) → AllByRecursion (λ p. Fine p.term) ps → AllByRecursion (λ p. Fine p.term) (those b ps)
 those_fine b [] f = tt
 those_fine b (p ∷ ps) f = go (b p) (those_fine b ps f.1)
   where
-    go : (c : Bool) → All (λ p. Fine p.term) (those b ps) → All (λ p. Fine p.term) (pick c (p ∷ those b ps) (those b ps))
+    go : (c : Bool) → AllByRecursion (λ p. Fine p.term) (those b ps) → AllByRecursion (λ p. Fine p.term) (pick c (p ∷ those b ps) (those b ps))
     go true later = (f.0, later)
     go false later = later
 
-pub places_ok : (g : Glass) (qs : List Place) (s : Rect) (rs : Rows) → All (λ q. In q.rect s) qs → s.x ≡ 0 → All (λ p. Fine p.term) g.panes → All (RowOk s.wide) rs
-    → All (RowOk s.wide) (draw_places g qs rs)
+pub places_ok : (g : Glass) (qs : List Place) (s : Rect) (rs : Rows) → AllByRecursion (λ q. In q.rect s) qs → s.x ≡ 0 → AllByRecursion (λ p. Fine p.term) g.panes → AllByRecursion (RowOk s.wide) rs
+    → AllByRecursion (RowOk s.wide) (draw_places g qs rs)
 unfolding draw_places
 places_ok g [] s rs a z f l = l
 places_ok g (q ∷ qs) s rs a z f l = places_ok g qs s _ a.1 z f (one_ok s q (pane_of g q.id) rs z a.0 (those_fine _ g.panes f) l)
 
 -- the lines between
-column_ok : (h : ℕ) → All (PartOk 1) (so_many h (sign 124 ∷ []))
+column_ok : (h : ℕ) → AllByRecursion (PartOk 1) (so_many h (sign 124 ∷ []))
 column_ok h = all_replicate (PartOk 1) h (sign 124 ∷ []) (record { most = omega arith; fine = (refl, tt) })
 
 line_ok : (n : ℕ) → PartOk n (so_many n (sign 45))
 line_ok n = record { most = (let z = length-replicate n (sign 45) in omega arith); fine = all_replicate (λ c. fine_cell c ≡ true) n (sign 45) refl }
 
-pub lines_ok : (l : Layout) (r s : Rect) (rs : Rows) → In r s → s.x ≡ 0 → All (RowOk s.wide) rs → All (RowOk s.wide) (draw_lines l r rs)
+pub lines_ok : (l : Layout) (r s : Rect) (rs : Rows) → In r s → s.x ≡ 0 → AllByRecursion (RowOk s.wide) rs → AllByRecursion (RowOk s.wide) (draw_lines l r rs)
 unfolding draw_lines
 lines_ok (pane i) r s rs h z o = o
 lines_ok (beside a b) r s rs h z o =
     lines_ok b (right_of r) s _ (in_right r s h) z (lines_ok a (left_of r) s _ (in_left r s h) z
-    (cond_both (ltb 0 r.wide) _ rs (All (RowOk s.wide))
+    (cond_both (ltb 0 r.wide) _ rs (AllByRecursion (RowOk s.wide))
     (λ e. put_rows_ok s.wide 1 (r.x + half r.wide) r.y _ rs (column_ok r.high) (λ _. let p = ltb-true 0 r.wide e in let y = h.right p in omega arith) o) (λ _. o)))
 lines_ok (above a b) r s rs h z o =
     lines_ok b (lower_of r) s _ (in-lower r s h) z (lines_ok a (upper_of r) s _ (in-upper r s h) z
-    (cond_both (ltb 0 r.high) _ rs (All (RowOk s.wide))
+    (cond_both (ltb 0 r.high) _ rs (AllByRecursion (RowOk s.wide))
     (λ _. put_rows_ok s.wide r.wide r.x (r.y + half r.high) _ rs (line_ok r.wide, tt) (λ k. let y = h.right k in omega arith) o) (λ _. o)))
 
 -- THE STATUS LINE, for at most ten windows
@@ -141,7 +141,7 @@ below_one p zero e k h = absurd (omega arith)
 below_one p (suc n) e k h = let a = and_parts (p n) _ e in elim (cases_eq k n) [ inl q ↦ ap p q ∙ a.0 | inr q ↦ below_one p n a.1 k (omega arith) ]
 
 TurnedFine : List ℕ → Type 0
-TurnedFine cs = All (λ c. fine_cell c ≡ true) (each turned cs)
+TurnedFine cs = AllByRecursion (λ c. fine_cell c ≡ true) (each turned cs)
 
 digit_fine : (k : ℕ) → k < 10 → TurnedFine (in_digits k)
 unfolding TurnedFine digits
@@ -180,17 +180,17 @@ pub record GlassOk (g : Glass) : Type 0 where
   pub some_high : 0 < g.high
   pub high : g.high ≤ 60
   pub few : length g.windows ≤ 10
-  pub fine : All (λ p. Fine p.term) g.panes
+  pub fine : AllByRecursion (λ p. Fine p.term) g.panes
 
 blank_ok : (w : ℕ) → RowOk w (blank_row w)
 blank_ok w = record { wide = length-replicate w blank; fine = all_replicate (λ c. fine_cell c ≡ true) w blank refl }
 
-put_ok : (w : ℕ) (rs : Rows) (y : ℕ) (r : List Cell) → RowOk w r → All (RowOk w) rs → All (RowOk w) (put_at rs y r)
+put_ok : (w : ℕ) (rs : Rows) (y : ℕ) (r : List Cell) → RowOk w r → AllByRecursion (RowOk w) rs → AllByRecursion (RowOk w) (put_at rs y r)
 put_ok w [] y r o l = tt
 put_ok w (x ∷ rs) zero r o l = (o, l.1)
 put_ok w (x ∷ rs) (suc y) r o l = (l.0, put_ok w rs y r o l.1)
 
-pub picture_ok : (g : Glass) → GlassOk g → All (RowOk g.wide) (picture g)
+pub picture_ok : (g : Glass) → GlassOk g → AllByRecursion (RowOk g.wide) (picture g)
 unfolding picture
 picture_ok g o =
     put_ok g.wide _ (g.high - 1) (last_row g) (status_ok g o.few)
@@ -198,11 +198,11 @@ picture_ok g o =
     (lines_ok (current g).layout (room g) (room g) _ (in_self (room g)) refl (all_replicate (RowOk g.wide) g.high (blank_row g.wide) (blank_ok g.wide))))
 
 -- THE CURSOR
-those_in : (s : Rect) (b : Place → Bool) (qs : List Place) → All (λ q. In q.rect s) qs → All (λ q. In q.rect s) (those b qs)
+those_in : (s : Rect) (b : Place → Bool) (qs : List Place) → AllByRecursion (λ q. In q.rect s) qs → AllByRecursion (λ q. In q.rect s) (those b qs)
 those_in s b [] f = tt
 those_in s b (q ∷ qs) f = go (b q) (those_in s b qs f.1)
   where
-    go : (c : Bool) → All (λ q. In q.rect s) (those b qs) → All (λ q. In q.rect s) (pick c (q ∷ those b qs) (those b qs))
+    go : (c : Bool) → AllByRecursion (λ q. In q.rect s) (those b qs) → AllByRecursion (λ q. In q.rect s) (pick c (q ∷ those b qs) (those b qs))
     go true later = (f.0, later)
     go false later = later
 
@@ -232,7 +232,7 @@ spot_on g h e =
     let z = go (place_of_focus g) (pane_of g (current g).focus) (those_in (room g) _ _ (places_in (current g).layout (room g) (room g) (in_self (room g)))) e in
     (let a = z.0 in omega arith, let a = z.1 in omega arith)
   where
-    go : (qs : List Place) (ps : List Pane) → All (λ q. In q.rect (room g)) qs → SeenOn (room g) (spot_of qs ps)
+    go : (qs : List Place) (ps : List Pane) → AllByRecursion (λ q. In q.rect (room g)) qs → SeenOn (room g) (spot_of qs ps)
     go [] ps f = unseen (room g)
     go (q ∷ qs) [] f = unseen (room g)
     go (q ∷ qs) (p ∷ ps) f = spot_in_ok (room g) q.rect p.term f.0
@@ -258,12 +258,12 @@ small_row : (r : List Cell) → FineRow r → every (λ x. ltb x (2 ^ 64)) (map 
 small_row [] f = refl
 small_row (c ∷ r) f = and_from _ _ (fine_small c f.0) (small_row r f.1)
 
-pub small_cells : (rs : Rows) → All FineRow rs → every (λ x. ltb x (2 ^ 64)) (cells_of rs) ≡ true
+pub small_cells : (rs : Rows) → AllByRecursion FineRow rs → every (λ x. ltb x (2 ^ 64)) (cells_of rs) ≡ true
 unfolding cells_of
 small_cells [] f = refl
 small_cells (r ∷ rs) f = every_append (λ x. ltb x (2 ^ 64)) (map packed r) (cells_of rs) (small_row r f.0) (small_cells rs f.1)
 
-pub every_fine : (rs : Rows) → All FineRow rs → every (λ r. every fine_cell r) rs ≡ true
+pub every_fine : (rs : Rows) → AllByRecursion FineRow rs → every (λ r. every fine_cell r) rs ≡ true
 every_fine [] f = refl
 every_fine (r ∷ rs) f = and_from _ _ (row r f.0) (every_fine rs f.1)
   where
@@ -272,10 +272,10 @@ every_fine (r ∷ rs) f = and_from _ _ (row r f.0) (every_fine rs f.1)
     row (c ∷ r) f = and_from _ _ f.0 (row r f.1)
 
 -- all that the writer needs
-rows_wide : (w : ℕ) (rs : Rows) → All (RowOk w) rs → AsWide w rs
+rows_wide : (w : ℕ) (rs : Rows) → AllByRecursion (RowOk w) rs → AsWide w rs
 rows_wide w rs f = All-weaker (RowOk w) (λ r. length r ≡ w) (λ r o. o.wide) rs f
 
-rows_fine : (w : ℕ) (rs : Rows) → All (RowOk w) rs → All FineRow rs
+rows_fine : (w : ℕ) (rs : Rows) → AllByRecursion (RowOk w) rs → AllByRecursion FineRow rs
 rows_fine w rs f = All-weaker (RowOk w) FineRow (λ r o. o.fine) rs f
 
 pub pictured_any : (g : Glass) → GlassOk g → Pictured g

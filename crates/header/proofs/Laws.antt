@@ -1,7 +1,7 @@
 -- A header is 64 numbers long, and what is stored is loaded again.
 use Rattle.std.proofs.Common.{◌≡◌, ℕ, ◌-◌, ◌^◌, ◌<◌, ◌≤◌, Bool, true, false, ltb, List, [], ◌∷◌, ◌++◌, length, get_or, take, replicate, refl, ap, ◌∙◌, arith, length-append, length-take}
 use lib.ListN.{length-replicate}
-use Rattle.std.specs.List.{AllByRecursion as All}
+use Rattle.std.specs.List.{AllByRecursion}
 use Rattle.std.proofs.lemmas.List.{take-take, take_all, take_at}
 use Rattle.std.proofs.ByRecursion.{All-append, All-take, All-weaker}
 use Rattle.std.proofs.lemmas.Bool.{and_from, lt-ltb, le-leb}
@@ -44,10 +44,10 @@ reading_back t passed f = refl
 reading_back t string f = refl
 reading_back t string_end f = refl
 
-all_padded : (P : ℕ → Type 0) → P 0 → (ns : List ℕ) → All P ns → All P (padded ns)
+all_padded : (P : ℕ → Type 0) → P 0 → (ns : List ℕ) → AllByRecursion P ns → AllByRecursion P (padded ns)
 all_padded P z ns p = All-append P (take 32 ns) _ (All-take P 32 ns p) (all_replicate P (32 - length ns) 0 z)
 
-begun_small : (n : ℕ) (now : List ℕ) → 0 < n → All (λ k. k < n) now → get_or now 0 0 < n
+begun_small : (n : ℕ) (now : List ℕ) → 0 < n → AllByRecursion (λ k. k < n) now → get_or now 0 0 < n
 begun_small n [] h p = h
 begun_small n (k ∷ ns) h p = p.0
 
@@ -92,10 +92,10 @@ has_begun_word : (now : List ℕ) → Word (has_begun now)
 has_begun_word [] = omega arith
 has_begun_word (n ∷ ns) = omega arith
 
-state_words : (k : ℕ) → k < 6 → All Word (parser_state k)
+state_words : (k : ℕ) → k < 6 → AllByRecursion Word (parser_state k)
 state_words k h = (omega arith, all_replicate Word 15 0 (omega arith))
 
-parser_words : (r : Reading) → ReadingFits r → All Word (numbers_of_parser r)
+parser_words : (r : Reading) → ReadingFits r → AllByRecursion Word (numbers_of_parser r)
 parser_words ground_state f = state_words 0 (omega arith)
 parser_words escape f = state_words 1 (omega arith)
 parser_words (sequence private ps now) f =
@@ -107,7 +107,7 @@ parser_words passed f = state_words 3 (omega arith)
 parser_words string f = state_words 4 (omega arith)
 parser_words string_end f = state_words 5 (omega arith)
 
-parameters_words : (r : Reading) → ReadingFits r → All Word (parameters_in r)
+parameters_words : (r : Reading) → ReadingFits r → AllByRecursion Word (parameters_in r)
 parameters_words ground_state f = tt
 parameters_words escape f = tt
 parameters_words (sequence private ps now) f = All-weaker (λ n. n < 65536) Word (λ n h. omega arith) ps f.1
@@ -118,7 +118,7 @@ parameters_words string_end f = tt
 style_word : (s : Style) → StyleFits s → Word (style_number s)
 style_word s f = omega (arith, f.0, f.1, f.2)
 
-screen_words : (t : Term) → InRange t → All Word (numbers_of_screen t)
+screen_words : (t : Term) → InRange t → AllByRecursion Word (numbers_of_screen t)
 screen_words t f = (
   omega arith,
   (
@@ -188,7 +188,7 @@ header_accepted t f =
     let region = and_from _ _ (le-leb t.top t.bottom f.ordered) (lt-ltb t.bottom t.high f.inside) in
     fits (header_of t) (header_long t) size cursor region (reading_accepted t r f.reads)
 
-header_words : (t : Term) → InRange t → All Word (header_of t)
+header_words : (t : Term) → InRange t → AllByRecursion Word (header_of t)
 unfolding header_of
 header_words t f =
     let r = t.reading in

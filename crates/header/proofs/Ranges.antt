@@ -1,6 +1,6 @@
 -- A header can hold every terminal that is loaded or comes about: its numbers stay in range whatever is written.
 use Rattle.std.proofs.Common.{◌≡◌, ℕ, zero, suc, ◌^◌, ◌<◌, ◌≤◌, true, ◌&&◌, eqb, ltb, leb, List, [], ◌∷◌, length, get_or, arith, length-take}
-use Rattle.std.specs.List.{AllByRecursion as All}
+use Rattle.std.specs.List.{AllByRecursion}
 use Rattle.std.proofs.ByRecursion.{All-weaker, All-take}
 use Rattle.std.proofs.lemmas.Bool.{and_parts, ltb-true, leb-true, cond_both}
 use Rattle.std.proofs.lemmas.Bool.Decides.{nat_tests, Decides-ltb}
@@ -112,14 +112,14 @@ pub fresh_in_range : FreshInRange
 fresh_in_range w h a b c d = in-range-within w h (fresh w h) a b c d (sound_fresh w h a c) (fresh_within w h b d a c w h)
 
 -- what is loaded
-small_at : (m : List ℕ) (k : ℕ) → All (λ n. n < 2 ^ 64) m → get_or m k 0 < 2 ^ 64
+small_at : (m : List ℕ) (k : ℕ) → AllByRecursion (λ n. n < 2 ^ 64) m → get_or m k 0 < 2 ^ 64
 small_at [] zero p = omega arith
 small_at [] (suc k) p = omega arith
 small_at (n ∷ ns) zero p = p.0
 small_at (n ∷ ns) (suc k) p = small_at ns k p.1
 
-begun_fits : (k n : ℕ) → n < 65536 → (length (begun_from k n) ≤ 1) × All (λ x. x < 65536) (begun_from k n)
-begun_fits k n h = pick_both (λ xs. (length xs ≤ 1) × All (λ x. x < 65536) xs) (yes k) (n ∷ []) [] (omega arith, (h, tt)) (omega arith, tt)
+begun_fits : (k n : ℕ) → n < 65536 → (length (begun_from k n) ≤ 1) × AllByRecursion (λ x. x < 65536) (begun_from k n)
+begun_fits k n h = pick_both (λ xs. (length xs ≤ 1) × AllByRecursion (λ x. x < 65536) xs) (yes k) (n ∷ []) [] (omega arith, (h, tt)) (omega arith, tt)
 
 reading_from_fits : (m : List ℕ) → reading_fits m ≡ true → ReadingFits (reading_from m)
 reading_from_fits m e =

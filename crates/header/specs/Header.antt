@@ -16,7 +16,7 @@
 --
 -- What is not listed is stored as 0, and so is what the parser's state has no use for. Yes is 1, and any other number is read as no.
 use Rattle.std.specs.Prelude.{◌≡◌, ℕ, ◌-◌, ◌^◌, ◌<◌, ◌≤◌, Bool, true, ◌&&◌, ltb, List, [], ◌∷◌, ◌++◌, length, take, drop, replicate, ◌==◌, nat_le, nat_lt, slice_index}
-use Rattle.std.specs.List.{AllByRecursion as All}
+use Rattle.std.specs.List.{AllByRecursion}
 use Rattle.meaning.specs.Words.{pick, every}
 use Rattle.meaning.specs.Screen.{Style, Cell, Term, Saved, Reading, ground_state, escape, sequence, passed, string, string_end, with_rows, with_answer, fresh, fitted}
 use Rattle.meaning.specs.Bytes.{written}
@@ -139,7 +139,7 @@ StyleFits s = (s.marks < 2 ^ 16) × (s.fore < 2 ^ 8) × (s.back < 2 ^ 8)
 abbrev pub ReadingFits : Reading → Type 0
 ReadingFits ground_state = Unit {0}
 ReadingFits escape = Unit {0}
-ReadingFits (sequence private ps now) = (length ps ≤ 16) × All (λ n. n < 65536) ps × (length now ≤ 1) × All (λ n. n < 65536) now
+ReadingFits (sequence private ps now) = (length ps ≤ 16) × AllByRecursion (λ n. n < 65536) ps × (length now ≤ 1) × AllByRecursion (λ n. n < 65536) now
 ReadingFits passed = Unit {0}
 ReadingFits string = Unit {0}
 ReadingFits string_end = Unit {0}

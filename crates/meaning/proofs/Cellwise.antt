@@ -1,6 +1,6 @@
 -- What holds of each cell and of the styles in force and saved still holds after every byte and at another size, if it holds of a blank cell, the plain style, what SGR leaves and a character written.
 use Rattle.std.proofs.Common.{ℕ, suc, ◌+◌, ◌-◌, ◌≤◌, Bool, eqb, ltb, List, [], ◌∷◌, set}
-use Rattle.std.specs.List.{AllByRecursion as All}
+use Rattle.std.specs.List.{AllByRecursion}
 use Rattle.std.proofs.ByRecursion.{All-append, All-take, All-drop, All-set, All-map, All-weaker}
 use Rattle.meaning.specs.Words.{pick, so_many}
 use Rattle.meaning.specs.Screen.{Style, Cell, Term, plain_style, blank, blank_row, fresh, at, with_rows, with_answer, with_modes, with_region, row_on, row_back, change_row, opened, closed, wiped, put_sign, printed, goes_to, wipe_row, wipe_all, lines_in, lines_out, up_by, down_by, in_region, region, styled_one, styled, fitted_row, fitted}
@@ -10,7 +10,7 @@ use Rattle.meaning.proofs.Edits.{all_replicate, row_at_has_or, all_scrolled_up, 
 
 -- C of each cell, S of the styles; over the fields, so that what touches none of them keeps it by computing
 pub record HoldsFields (C : Cell → Type 0) (S : Style → Type 0) (rows : List (List Cell)) (style saved : Style) : Type 0 where
-  pub cells : All (λ r. All C r) rows
+  pub cells : AllByRecursion (λ r. AllByRecursion C r) rows
   pub writes : S style
   pub saves : S saved
 
@@ -27,18 +27,18 @@ pub record Rules (C : Cell → Type 0) (S : Style → Type 0) : Type 0 where
 module _ (C : Cell → Type 0) (S : Style → Type 0) (rules : Rules C S) where
   -- short names for what follows
   abbrev Row : List Cell → Type 0
-  Row r = All C r
+  Row r = AllByRecursion C r
 
   abbrev H : Term → Type 0
   H t = Holds C S t
 
-  holds_rows : (t : Term) (rs : List (List Cell)) → H t → All Row rs → H (with_rows t rs)
+  holds_rows : (t : Term) (rs : List (List Cell)) → H t → AllByRecursion Row rs → H (with_rows t rs)
   holds_rows t rs f p = record { cells = p; writes = f.writes; saves = f.saves }
 
   holds_blank_row : (w : ℕ) → Row (blank_row w)
   holds_blank_row w = all_replicate C w blank rules.blanks
 
-  holds_blank_rows : (n w : ℕ) → All Row (so_many n (blank_row w))
+  holds_blank_rows : (n w : ℕ) → AllByRecursion Row (so_many n (blank_row w))
   holds_blank_rows n w = all_replicate Row n (blank_row w) (holds_blank_row w)
 
   -- scrolling

@@ -1,6 +1,6 @@
 -- A fine screen can be drawn, cell by cell, and so can what is written next on it; every byte leaves it so, and so does another size.
 use Rattle.std.proofs.Common.{◌≡◌, ℕ, ◌+◌, ◌-◌, ◌<◌, ◌≤◌, true, ◌&&◌, eqb, ltb, leb, List, Decides, refl, arith}
-use Rattle.std.specs.List.{AllByRecursion as All}
+use Rattle.std.specs.List.{AllByRecursion}
 use Rattle.std.proofs.lemmas.Bool.Decides.{nat_tests}
 use Rattle.std.proofs.lemmas.Bool.{and_parts, and_from, or_left, ltb-true, leb-true, lt-ltb, le-leb, cond_both}
 use Rattle.meaning.specs.Words.{every}
@@ -18,7 +18,7 @@ abbrev pub CellFine : Cell → Type 0
 CellFine c = fine_cell c ≡ true
 
 abbrev pub FineRow : List Cell → Type 0
-FineRow r = All CellFine r
+FineRow r = AllByRecursion CellFine r
 
 abbrev pub FineFields : List (List Cell) → Style → Style → Type 0
 FineFields rows style saved = HoldsFields CellFine StyleFine rows style saved
@@ -87,7 +87,7 @@ pub fine_written : (t : Term) (cs : List ℕ) → Fine t → Fine (written t cs)
 fine_written = holds_written CellFine StyleFine fine_rules
 
 -- the statement's own word for it
-rows_decide : (rs : List (List Cell)) → Decides (every (λ r. every fine_cell r) rs) (All FineRow rs)
+rows_decide : (rs : List (List Cell)) → Decides (every (λ r. every fine_cell r) rs) (AllByRecursion FineRow rs)
 rows_decide rs = decides_every (λ r. every fine_cell r) FineRow (λ r. decides_every fine_cell CellFine (λ c. (λ e. e, λ e. e)) r) rs
 
 pub fine_screen_fine : (t : Term) → fine_screen t ≡ true → Fine t

@@ -2,7 +2,7 @@
 -- has begun, none above a number from 9,999 on, and a saved cursor within bounds from the screen's on.
 -- Every byte leaves it so, and so do another size and a fresh screen.
 use Rattle.std.proofs.Common.{ℕ, suc, ◌-◌, ◌<◌, ◌≤◌, Bool, not, ◌&&◌, eqb, ltb, leb, List, [], ◌∷◌, ◌++◌, length, get_or, take, arith, length-take}
-use Rattle.std.specs.List.{AllByRecursion as All}
+use Rattle.std.specs.List.{AllByRecursion}
 use Rattle.std.proofs.ByRecursion.{All-take, All-push}
 use Rattle.std.proofs.lemmas.Bool.{and_parts, leb-true, cond_both}
 use Rattle.meaning.specs.Words.{pick, or, none_of}
@@ -12,7 +12,7 @@ use Rattle.meaning.proofs.Controls.{Controls, pick_both, control_keeps, escape_k
 use Rattle.meaning.proofs.Sound.{Sound, sound_controls, sound_report, sound_byte}
 
 abbrev pub ShortNumbers : ℕ → List ℕ → Type 0
-ShortNumbers most ns = All (λ n. n ≤ most) ns
+ShortNumbers most ns = AllByRecursion (λ n. n ≤ most) ns
 
 abbrev pub Short : ℕ → Reading → Type 0
 Short most ground_state = Unit {0}

@@ -1,6 +1,6 @@
 -- How much a terminal reports to the program that writes: a report takes four bytes to ask for (ESC [ 6 n) and is at most nine bytes long.
 use Rattle.std.proofs.Common.{◌≡◌, ℕ, zero, suc, ◌+◌, ◌-◌, ◌*◌, ◌<◌, ◌≤◌, Bool, true, false, not, ◌&&◌, eqb, ltb, leb, List, [], ◌∷◌, ◌++◌, length, get_or, refl, inl, inr, add-zero, arith, length-append}
-use Rattle.std.specs.List.{AllByRecursion as All}
+use Rattle.std.specs.List.{AllByRecursion}
 use Rattle.std.proofs.ByRecursion.{All-append}
 use Rattle.std.proofs.lemmas.Bool.Decides.{Decides-ltb, Decides-below_and}
 use Rattle.std.proofs.lemmas.Bool.{and_parts, leb-true, cases_eq}
@@ -132,7 +132,7 @@ unfolding short digits
 three_digits = refl
 
 abbrev pub Small : List ℕ → Type 0
-Small bs = All (λ b. b < 256) bs
+Small bs = AllByRecursion (λ b. b < 256) bs
 
 small_digits : (m n : ℕ) → short m n ≡ true → (length (in_digits n) ≤ m) × Small (in_digits n)
 unfolding short
@@ -269,7 +269,7 @@ module _ (w h : ℕ) (narrow : w ≤ 200) (low : h ≤ 60) where
       rw e (reported_written b (suc n) (byte t c) cs (sound_byte w h t c o) (reported_byte b n w h narrow low t c o s))
 
   -- of up to 4,096 bytes, wherever the parser stood before
-  pub answer_short : (t : Term) (cs : List ℕ) → Sound w h t → t.answer ≡ [] → length cs ≤ 4096 → (length (written t cs).answer ≤ 9216) × All (λ x. x < 256) (written t cs).answer
+  pub answer_short : (t : Term) (cs : List ℕ) → Sound w h t → t.answer ≡ [] → length cs ≤ 4096 → (length (written t cs).answer ≤ 9216) × AllByRecursion (λ x. x < 256) (written t cs).answer
   answer_short t cs o e l =
       let m = asked_most t.reading in
       let r = reported_written 0 (asked t.reading) t cs o (record { count = 0; few = rw e (omega arith); paid = omega arith; small = rw e tt }) in

@@ -1,6 +1,6 @@
 -- The numbers of every cell and style fit where memory keeps them, whatever a screen began as: every byte leaves it so, and so does another size.
 use Rattle.std.proofs.Common.{◌≡◌, ℕ, ◌+◌, ◌-◌, ◌^◌, ◌<◌, true, ◌&&◌, eqb, leb, List, arith}
-use Rattle.std.specs.List.{AllByRecursion as All}
+use Rattle.std.specs.List.{AllByRecursion}
 use Rattle.std.proofs.ByRecursion.{All-weaker}
 use Rattle.std.proofs.lemmas.Bool.Decides.{nat_tests}
 use Rattle.std.proofs.lemmas.Bool.{and_parts, leb-true, cond_both}
@@ -21,7 +21,7 @@ pub record CellSmall (c : Cell) : Type 0 where
   pub style : StyleSmall c.style
 
 abbrev pub SmallRow : List Cell → Type 0
-SmallRow r = All CellSmall r
+SmallRow r = AllByRecursion CellSmall r
 
 abbrev pub SmallFields : List (List Cell) → Style → Style → Type 0
 SmallFields rows style saved = HoldsFields CellSmall StyleSmall rows style saved

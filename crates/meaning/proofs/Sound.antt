@@ -1,7 +1,7 @@
 -- A sound screen is as large as it says, with its cursor on it and its scroll region within it; every byte leaves it so, and so does another size.
 use Rattle.std.proofs.Common.{◌≡◌, ℕ, suc, ◌+◌, ◌-◌, ◌<◌, ◌≤◌, Bool, true, ◌&&◌, eqb, ltb, leb, List, [], ◌∷◌, ◌++◌, length, take, drop, set, Decides, sym, refl, ◌∙◌, arith, length-append, length-drop, length-set, length-take}
 use lib.ListN.{length-replicate}
-use Rattle.std.specs.List.{AllByRecursion as All}
+use Rattle.std.specs.List.{AllByRecursion}
 use Rattle.std.proofs.ByRecursion.{All-append, All-take, All-drop, All-set}
 use Rattle.std.proofs.lemmas.Bool.Decides.{nat_tests, Decides-eqb}
 use Rattle.std.proofs.lemmas.Bool.{and_parts, and_from, eqb-true, ltb-true, leb-true, eq-eqb, lt-ltb, le-leb, cond_both}
@@ -13,7 +13,7 @@ use Rattle.meaning.proofs.Controls.{Controls, Steps, pick_both, byte_keeps, writ
 use Rattle.meaning.proofs.Edits.{decides_every, all_replicate, row_at_has, all_scrolled_up, all_scrolled_down, length_scrolled_up, length_scrolled_down, length_opened, length_closed, length_wiped, length_fitted_row}
 
 abbrev pub AsWide : ℕ → List (List Cell) → Type 0
-AsWide w rs = All (λ r. length r ≡ w) rs
+AsWide w rs = AllByRecursion (λ r. length r ≡ w) rs
 
 -- over the fields, so that what touches none of them keeps it by computing
 pub record SoundFields (w h wide high : ℕ) (rows : List (List Cell)) (row col top bottom : ℕ) : Type 0 where

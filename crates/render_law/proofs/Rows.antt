@@ -1,6 +1,6 @@
 -- Rows that can be drawn as flat numbers, and back.
 use Rattle.std.proofs.Common.{◌≡◌, ℕ, ◌*◌, true, ◌&&◌, ltb, leb, List, [], ◌∷◌, map, length, refl, ap, suc-mul, zero-mul, arith, length-append}
-use Rattle.std.specs.List.{AllByRecursion as All}
+use Rattle.std.specs.List.{AllByRecursion}
 use Rattle.std.proofs.lemmas.List.{length-map, map-append, take_at, drop_at}
 use Rattle.std.proofs.lemmas.Bool.{and_parts, leb-true, ltb-true}
 use Rattle.meaning.specs.Words.{every}
@@ -27,7 +27,7 @@ row_back (c ∷ r) e =
     let b = row_back r p.1 in
     λ i. a i ∷ b i
 
-pub rows_of_cells : (w : ℕ) (rs : List (List Cell)) → All (λ r. length r ≡ w) rs → every (λ r. every fine_cell r) rs ≡ true → rows_of w (length rs) (cells_of rs) ≡ rs
+pub rows_of_cells : (w : ℕ) (rs : List (List Cell)) → AllByRecursion (λ r. length r ≡ w) rs → every (λ r. every fine_cell r) rs ≡ true → rows_of w (length rs) (cells_of rs) ≡ rs
 unfolding rows_of pieces cells_of
 rows_of_cells w [] l e = refl
 rows_of_cells w (r ∷ rs) l e =
@@ -37,7 +37,7 @@ rows_of_cells w (r ∷ rs) l e =
     rw (map-append unpacked (map packed r) (cells_of rs), h, take_at r (map unpacked (cells_of rs)) w n, drop_at r (map unpacked (cells_of rs)) w n)
     (ap (λ (t : List (List Cell)). r ∷ t) (rows_of_cells w rs l.1 p.1))
 
-pub length_cells : (w : ℕ) (rs : List (List Cell)) → All (λ r. length r ≡ w) rs → length (cells_of rs) ≡ length rs * w
+pub length_cells : (w : ℕ) (rs : List (List Cell)) → AllByRecursion (λ r. length r ≡ w) rs → length (cells_of rs) ≡ length rs * w
 unfolding cells_of
 length_cells w [] l = omega (arith, zero-mul w)
 length_cells w (r ∷ rs) l =

@@ -1,6 +1,6 @@
 -- What is accepted as a memory that holds a state: every number that is used is in range, and the state has room.
 use Rattle.std.proofs.Common.{◌≡◌, ℕ, zero, suc, ◌+◌, ◌*◌, ◌^◌, ◌<◌, ◌≤◌, true, eqb, ltb, leb, List, length, get_or, take, drop, sym, ap, subst, inl, inr, mul-le-mul, arith, length-drop, length-take}
-use Rattle.std.specs.List.{AllByRecursion as All}
+use Rattle.std.specs.List.{AllByRecursion}
 use Rattle.std.proofs.lemmas.Bool.{and_parts, eqb-true, ltb-true, leb-true, or_cases, eq-eqb, ne_eqb, cond-true, cond-false}
 use Rattle.std.proofs.lemmas.Bool.Decides.{Decides-ltb}
 use Rattle.meaning.proofs.Edits.{decides_every}
@@ -15,7 +15,7 @@ use Rattle.stored.specs.Laws.{InUse, ManyRefuses, Room, ManyRoom}
 use Rattle.stored.proofs.Areas.{cells_room_is}
 use Rattle.stored.proofs.Loaded.{length_loaded, cells_loaded}
 
-all_below : (n : ℕ) (xs : List ℕ) → every (λ x. ltb x n) xs ≡ true → All (λ x. x < n) xs
+all_below : (n : ℕ) (xs : List ℕ) → every (λ x. ltb x n) xs ≡ true → AllByRecursion (λ x. x < n) xs
 all_below n xs e = (decides_every (λ x. ltb x n) (λ x. x < n) (λ x. Decides-ltb x n) xs).0 e
 
 used : (h hs : List ℕ) → eqb (get_or h 0 0) 2 ≡ true → head_fits h ≡ true → panes_fit (get_or h 8 0) hs ≡ true → InUse h hs

@@ -1,7 +1,7 @@
 -- The areas of the memory lie apart: what is put into each is found there.
 use Rattle.std.proofs.Common.{◌≡◌, ℕ, ◌+◌, ◌-◌, ◌^◌, ◌≤◌, true, ltb, List, ◌++◌, length, take, drop, sym, refl, ap, ◌∙◌, append_assoc, arith, length-append, length-take}
 use lib.ListN.{length-replicate}
-use Rattle.std.specs.List.{AllByRecursion as All}
+use Rattle.std.specs.List.{AllByRecursion}
 use Rattle.std.proofs.ByRecursion.{All-append, All-take}
 use Rattle.std.proofs.lemmas.List.{take_at, drop_at, take_all, take-append-drop}
 use Rattle.meaning.specs.Words.{every, so_many}
@@ -92,7 +92,7 @@ length_widened n xs = simp (length-append, length-take, length-replicate) (omega
 pub widened_is : (n : ℕ) (xs : List ℕ) → length xs ≤ n → widened n xs ≡ xs ++ so_many (n - length xs) 0
 widened_is n xs h = ap (λ (z : List ℕ). z ++ so_many (n - length xs) 0) (take_all n xs h)
 
-pub all_widened : (P : ℕ → Type 0) → P 0 → (n : ℕ) (xs : List ℕ) → All P xs → All P (widened n xs)
+pub all_widened : (P : ℕ → Type 0) → P 0 → (n : ℕ) (xs : List ℕ) → AllByRecursion P xs → AllByRecursion P (widened n xs)
 all_widened P z n xs p = All-append P (take n xs) _ (All-take P n xs p) (all_replicate P (n - length xs) 0 z)
 
 pub take_widened : (n : ℕ) (xs : List ℕ) → length xs ≤ n → take (length xs) (widened n xs) ≡ xs

@@ -1,6 +1,6 @@
 -- A layout's code is read as that layout, and so are those of several windows.
 use Rattle.std.proofs.Common.{◌≡◌, ℕ, zero, suc, ◌+◌, ◌*◌, ◌^◌, ◌<◌, ◌≤◌, List, [], ◌∷◌, ◌++◌, length, refl, ap, ◌∙◌, append_assoc, arith, length-append}
-use Rattle.std.specs.List.{AllByRecursion as All}
+use Rattle.std.specs.List.{AllByRecursion}
 use Rattle.std.proofs.ByRecursion.{All-append}
 use Rattle.std.proofs.lemmas.Bool.{ne_eqb}
 use Rattle.meaning.specs.Words.{flat, each}
@@ -56,12 +56,12 @@ windows_read (w ∷ ws) rest h =
     ∙ (ap (then_read (λ r. parse_windows (length ws) r)) (reads_back 64 w.layout (windows_code ws ++ rest) (omega arith))
     ∙ ap (with_first w.layout) (windows_read ws rest (omega arith)))
 
-all_parts : (P : ℕ → Type 0) (xs ys : List ℕ) → All P (xs ++ ys) → All P xs × All P ys
+all_parts : (P : ℕ → Type 0) (xs ys : List ℕ) → AllByRecursion P (xs ++ ys) → AllByRecursion P xs × AllByRecursion P ys
 all_parts P [] ys p = (tt, p)
 all_parts P (x ∷ xs) ys p = let q = all_parts P xs ys p.1 in ((p.0, q.0), q.1)
 
 -- small numbers of panes have small codes
-code_small : (l : Layout) → All (λ i. i < 2 ^ 47) (ids l) → All (λ x. x < 2 ^ 47 + 2) (code l)
+code_small : (l : Layout) → AllByRecursion (λ i. i < 2 ^ 47) (ids l) → AllByRecursion (λ x. x < 2 ^ 47 + 2) (code l)
 unfolding code ids
 code_small (pane i) p = (let h = p.0 in omega arith, tt)
 code_small (beside a b) p =
@@ -69,6 +69,6 @@ code_small (beside a b) p =
 code_small (above a b) p =
     let q = all_parts (λ i. i < 2 ^ 47) (ids a) (ids b) p in (omega arith, All-append _ (code a) (code b) (code_small a q.0) (code_small b q.1))
 
-pub codes_small : (ws : List Window) → All WindowKept ws → All (λ x. x < 2 ^ 47 + 2) (windows_code ws)
+pub codes_small : (ws : List Window) → AllByRecursion WindowKept ws → AllByRecursion (λ x. x < 2 ^ 47 + 2) (windows_code ws)
 codes_small [] k = tt
 codes_small (w ∷ ws) k = All-append _ (code w.layout) (windows_code ws) (code_small w.layout k.0.panes) (codes_small ws k.1)

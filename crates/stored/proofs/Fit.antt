@@ -1,7 +1,7 @@
 -- A memory into which a state was put is seen to hold one; it never grows, nor do its numbers; and what all zeros stand for.
 use Rattle.std.proofs.Common.{◌≡◌, ℕ, zero, suc, ◌+◌, ◌^◌, ◌<◌, true, ◌&&◌, ltb, leb, List, ◌++◌, length, get_or, drop, refl, ap, ◌∙◌, arith}
 use lib.ListN.{length-replicate}
-use Rattle.std.specs.List.{AllByRecursion as All}
+use Rattle.std.specs.List.{AllByRecursion}
 use Rattle.std.proofs.lemmas.Bool.{and_from, eq-eqb, lt-ltb, le-leb, or_left, or_right, cond-true}
 use Rattle.std.proofs.lemmas.Bool.Decides.{Decides-ltb}
 use Rattle.meaning.proofs.Edits.{decides_every}
@@ -18,7 +18,7 @@ use Rattle.stored.proofs.Areas.{goes_on, all_widened}
 use Rattle.stored.proofs.Panes.{focuses_small, numbers_small, headers_are_fit, all_asked_is}
 use Rattle.stored.proofs.Many.{Tells, tells, layouts_back, found}
 
-below : (n : ℕ) (xs : List ℕ) → All (λ x. x < n) xs → every (λ x. ltb x n) xs ≡ true
+below : (n : ℕ) (xs : List ℕ) → AllByRecursion (λ x. x < n) xs → every (λ x. ltb x n) xs ≡ true
 below n xs p = (decides_every (λ x. ltb x n) (λ x. x < n) (λ x. Decides-ltb x n) xs).1 p
 
 size_is_fit : (h : List ℕ) (g : Glass) (v : View) → GlassKept g → Tells h g v → size_fits h ≡ true

@@ -1,6 +1,6 @@
 -- What every state that can come about holds, also while sizes change, and that each thing that comes keeps it.
 use Rattle.std.proofs.Common.{◌≡◌, ℕ, suc, ◌+◌, ◌-◌, ◌%◌, ◌^◌, ◌<◌, ◌≤◌, Bool, true, false, ◌&&◌, eqb, ltb, leb, List, [], ◌∷◌, length, refl, mod-lt, arith}
-use Rattle.std.specs.List.{AllByRecursion as All}
+use Rattle.std.specs.List.{AllByRecursion}
 use Rattle.std.proofs.ByRecursion.{All-append}
 use Rattle.std.proofs.lemmas.Bool.{cond_both, leb-false}
 use Rattle.meaning.specs.Words.{or, none_of, larger}
@@ -21,7 +21,7 @@ pub record Held (n : ℕ) (g : Glass) : Type 0 where
   pub high : g.high ≤ 60
   pub at : g.at < 8
   pub left : g.next + n < 2 ^ 47
-  pub panes : All PaneGood g.panes
+  pub panes : AllByRecursion PaneGood g.panes
 
 -- with other windows looked at, and one thing less to come
 held_so : (n : ℕ) (g u : Glass) → u.wide ≡ g.wide → u.high ≡ g.high → u.next ≡ g.next → u.panes ≡ g.panes → u.at < 8 → Held (suc n) g → Held n u
@@ -39,7 +39,7 @@ held_so n g u w h k p a o = record {
 held_begun : (n : ℕ) (u : Glass) (i : ℕ) → Held (suc n) u → Held n (begun_part u i).next
 held_begun n u i o = go (place_in (all_places u) i) (those_all (λ q. SmallPlace q.rect) _ (all_places u) (places_small u o.wide o.high))
   where
-    go : (qs : List Place) → All (λ q. SmallPlace q.rect) qs → Held n (begin_pane (numbered u) i qs).next
+    go : (qs : List Place) → AllByRecursion (λ q. SmallPlace q.rect) qs → Held n (begin_pane (numbered u) i qs).next
     go [] f = record { some_wide = o.some_wide; wide = o.wide; some_high = o.some_high; high = o.high; at = o.at; left = (let l = o.left in omega arith); panes = o.panes }
     go (q ∷ qs) f = record {
       some_wide = o.some_wide;
@@ -101,7 +101,7 @@ held_command known n g c s o =
     H : Turn → Type 0
     H t = Held n t.next
 
-held_bytes : (n : ℕ) (g : Glass) (i : ℕ) (bs : List ℕ) (ps : List Pane) → All PaneGood ps → Held (suc n) g → Held n (on_bytes g i bs ps).next
+held_bytes : (n : ℕ) (g : Glass) (i : ℕ) (bs : List ℕ) (ps : List Pane) → AllByRecursion PaneGood ps → Held (suc n) g → Held n (on_bytes g i bs ps).next
 unfolding on_bytes
 held_bytes n g i bs [] f o = held_so n g g refl refl refl refl o.at o
 held_bytes n g i bs (p ∷ ps) f o = record {

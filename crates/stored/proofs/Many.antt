@@ -1,7 +1,7 @@
 -- A state of several windows and panes that has been put into memory is found there again.
 use Rattle.std.proofs.Common.{◌≡◌, ℕ, ◌+◌, ◌*◌, ◌^◌, ◌<◌, ◌≤◌, Bool, true, false, ltb, List, ◌++◌, length, get_or, take, drop, sym, refl, ap, ◌∙◌, subst, mul-le-mul, arith, length-append}
 use lib.ListN.{length-map, length-replicate}
-use Rattle.std.specs.List.{AllByRecursion as All}
+use Rattle.std.specs.List.{AllByRecursion}
 use Rattle.std.proofs.ByRecursion.{All-append, All-weaker}
 use Rattle.std.proofs.lemmas.Bool.Decides.{Decides-ltb}
 use Rattle.meaning.proofs.Edits.{decides_every, all_replicate}
@@ -105,7 +105,7 @@ head_long g v =
 abbrev Word : ℕ → Type 0
 Word n = n < 2 ^ 64
 
-scalars_words : (g : Glass) (v : View) → GlassKept g → ViewKept g v → All Word (scalars g v)
+scalars_words : (g : Glass) (v : View) → GlassKept g → ViewKept g v → AllByRecursion Word (scalars g v)
 scalars_words g v s o =
     let p = o.pen in
     let bits : (b : Bool) → bit b < 2 = λ b. elim b as (λ (x : Bool). bit x < 2) [ true ↦ omega arith | false ↦ omega arith ] in

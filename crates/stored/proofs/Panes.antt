@@ -1,6 +1,6 @@
 -- Windows and panes are found again in what was made of them.
 use Rattle.std.proofs.Common.{◌≡◌, ℕ, ◌+◌, ◌*◌, ◌^◌, ◌<◌, true, ltb, List, [], ◌∷◌, ◌++◌, length, get_or, take, drop, sym, refl, ap, ◌∙◌, append_assoc, arith, length-append}
-use Rattle.std.specs.List.{AllByRecursion as All}
+use Rattle.std.specs.List.{AllByRecursion}
 use Rattle.std.proofs.lemmas.List.{take_at, drop_at}
 use Rattle.std.proofs.lemmas.Bool.{and_from}
 use Rattle.meaning.specs.Words.{every, each}
@@ -21,11 +21,11 @@ unfolding windows_of
 windows_back [] rest = refl
 windows_back (w ∷ ws) rest = ap (λ (z : List Window). w ∷ z) (windows_back ws rest)
 
-pub focuses_small : (ws : List Window) → All WindowKept ws → All (λ i. i < 2 ^ 47) (focuses ws)
+pub focuses_small : (ws : List Window) → AllByRecursion WindowKept ws → AllByRecursion (λ i. i < 2 ^ 47) (focuses ws)
 focuses_small [] k = tt
 focuses_small (w ∷ ws) k = (k.0.focus, focuses_small ws k.1)
 
-pub numbers_small : (ps : List Pane) → All PaneKept ps → All (λ i. i < 2 ^ 47) (numbers ps)
+pub numbers_small : (ps : List Pane) → AllByRecursion PaneKept ps → AllByRecursion (λ i. i < 2 ^ 47) (numbers ps)
 numbers_small [] k = tt
 numbers_small (p ∷ ps) k = (k.0.number, numbers_small ps k.1)
 
@@ -55,7 +55,7 @@ more_headers p ps rest =
     ap (drop 64) (append_assoc (header_of p.term) (headers ps) rest) ∙ drop_at (header_of p.term) (headers ps ++ rest) 64 (header_long p.term)
 
 -- panes, from their numbers, headers and cells
-pub panes_back : (ps : List Pane) (hs cs : List ℕ) → All PaneKept ps → panes_from (numbers ps) (headers ps ++ hs) (all_cells ps ++ cs) ≡ ps
+pub panes_back : (ps : List Pane) (hs cs : List ℕ) → AllByRecursion PaneKept ps → panes_from (numbers ps) (headers ps ++ hs) (all_cells ps ++ cs) ≡ ps
 unfolding panes_from
 panes_back [] hs cs k = refl
 panes_back (p ∷ ps) hs cs k =
@@ -74,14 +74,14 @@ panes_back (p ∷ ps) hs cs k =
     ∙ (ap (λ (z : ℕ). drop z (all_cells (p ∷ ps) ++ cs)) (asked t) ∙ (ap (drop (t.high * t.wide)) j ∙ drop_at xs (all_cells ps ++ cs) (t.high * t.wide) n)) in
     (λ i. record { id = p.id; term = c i } ∷ panes_from (numbers ps) (b i) (d i)) ∙ ap (λ (z : List Pane). p ∷ z) (panes_back ps hs cs k.1)
 
-pub headers_are_fit : (ps : List Pane) (hs : List ℕ) → All PaneKept ps → headers_fit (length ps) (headers ps ++ hs) ≡ true
+pub headers_are_fit : (ps : List Pane) (hs : List ℕ) → AllByRecursion PaneKept ps → headers_fit (length ps) (headers ps ++ hs) ≡ true
 unfolding headers_fit
 headers_are_fit [] hs k = refl
 headers_are_fit (p ∷ ps) hs k =
     and_from _ _ (ap header_fits (first_header p ps hs) ∙ (loads_back p.term k.0.range).0)
     (ap (headers_fit (length ps)) (more_headers p ps hs) ∙ headers_are_fit ps hs k.1)
 
-pub all_asked_is : (ps : List Pane) (hs : List ℕ) → All PaneKept ps → all_asked (length ps) (headers ps ++ hs) ≡ length (all_cells ps)
+pub all_asked_is : (ps : List Pane) (hs : List ℕ) → AllByRecursion PaneKept ps → all_asked (length ps) (headers ps ++ hs) ≡ length (all_cells ps)
 unfolding all_asked
 all_asked_is [] hs k = refl
 all_asked_is (p ∷ ps) hs k =
@@ -95,7 +95,7 @@ header_small : (t : Term) → InRange t → every (λ x. ltb x (2 ^ 64)) (header
 unfolding all_small
 header_small t r = (loads_back t r).2
 
-pub headers_small : (ps : List Pane) → All PaneKept ps → every (λ x. ltb x (2 ^ 64)) (headers ps) ≡ true
+pub headers_small : (ps : List Pane) → AllByRecursion PaneKept ps → every (λ x. ltb x (2 ^ 64)) (headers ps) ≡ true
 headers_small [] k = refl
 headers_small (p ∷ ps) k = every_append (λ x. ltb x (2 ^ 64)) (header_of p.term) (headers ps) (header_small p.term k.0.range) (headers_small ps k.1)
 
@@ -103,6 +103,6 @@ pub headers_long : (ps : List Pane) → length (headers ps) ≡ 64 * length ps
 headers_long [] = refl
 headers_long (p ∷ ps) = let a = length-append (header_of p.term) (headers ps) in let b = header_long p.term in let c = headers_long ps in omega arith
 
-pub cells_small : (ps : List Pane) → All PaneKept ps → every (λ x. ltb x (2 ^ 64)) (all_cells ps) ≡ true
+pub cells_small : (ps : List Pane) → AllByRecursion PaneKept ps → every (λ x. ltb x (2 ^ 64)) (all_cells ps) ≡ true
 cells_small [] k = refl
 cells_small (p ∷ ps) k = every_append (λ x. ltb x (2 ^ 64)) (cells_of p.term.rows) (all_cells ps) k.0.small (cells_small ps k.1)

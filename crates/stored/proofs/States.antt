@@ -1,6 +1,6 @@
 -- The states that can come about: while sizes change, and at rest. Memory has room for them.
 use Rattle.std.proofs.Common.{◌≡◌, ℕ, suc, ◌+◌, ◌^◌, ◌<◌, ◌≤◌, Bool, true, false, ◌⊎◌, List, [], ◌∷◌, ◌++◌, length, sym, refl, ap, ◌∙◌, subst, inl, inr, arith, length-append}
-use Rattle.std.specs.List.{AllByRecursion as All}
+use Rattle.std.specs.List.{AllByRecursion}
 use Rattle.std.proofs.ByRecursion.{All-weaker}
 use Rattle.std.proofs.lemmas.Bool.{cases_Bool, cases_lt, eq-eqb}
 use Rattle.meaning.specs.Panes.{Glass, Window, Place, Pane, Event, key, from, gone, attach, Says, ids, with_panes, pane_fitted, size_told, fit_places, all_places, settled, turn}
@@ -40,7 +40,7 @@ pub record Good (n : ℕ) (g : Glass) : Type 0 where
   pub rest : AtRest g
 
 -- NUMBERS BELOW THE NEXT ONE
-below : (k : ℕ) (xs : List ℕ) → ((i : ℕ) → k ≤ i → times i xs ≡ 0) → All (λ i. i < k) xs
+below : (k : ℕ) (xs : List ℕ) → ((i : ℕ) → k ≤ i → times i xs ≡ 0) → AllByRecursion (λ i. i < k) xs
 unfolding times
 below k [] f = tt
 below k (x ∷ xs) f = (go (cases_lt x k), below k xs (λ i h. let z = f i h in omega arith))
@@ -56,7 +56,7 @@ one_below k i xs f h = go (cases_lt i k)
     go (inl l) = l
     go (inr l) = absurd (let z = f i l in omega arith)
 
-windows_kept : (k : ℕ) (vs : List Window) → k < 2 ^ 47 → ((i : ℕ) → k ≤ i → times i (glass_ids vs) ≡ 0) → Focused vs → All WindowKept vs
+windows_kept : (k : ℕ) (vs : List Window) → k < 2 ^ 47 → ((i : ℕ) → k ≤ i → times i (glass_ids vs) ≡ 0) → Focused vs → AllByRecursion WindowKept vs
 windows_kept k [] h f o = tt
 windows_kept k (v ∷ vs) h f o =
     let here : (i : ℕ) → k ≤ i → times i (ids v.layout) ≡ 0 = (λ i l. let z = f i l in let y = times_append i (ids v.layout) (glass_ids vs) in omega arith) in
@@ -68,14 +68,14 @@ windows_kept k (v ∷ vs) h f o =
       windows_kept k vs h there o.1,
     )
 
-panes_kept : (k : ℕ) (ps : List Pane) → k < 2 ^ 47 → All (λ i. i < k) (pane_ids ps) → All PaneGood ps → All PaneKept ps
+panes_kept : (k : ℕ) (ps : List Pane) → k < 2 ^ 47 → AllByRecursion (λ i. i < k) (pane_ids ps) → AllByRecursion PaneGood ps → AllByRecursion PaneKept ps
 panes_kept k [] h f o = tt
 panes_kept k (p ∷ ps) h f o =
     let q = o.0 in
     let s = q.some_wide in let t = q.some_high in let l = f.0 in
     (pane_kept q.wide_of q.high_of p (omega arith) q.wide (omega arith) q.high q.sound q.fine q.reads q.silent (omega arith), panes_kept k ps h f.1 o.1)
 
-length_all_cells : (ps : List Pane) → All PaneKept ps → length (all_cells ps) ≡ pane_cells ps
+length_all_cells : (ps : List Pane) → AllByRecursion PaneKept ps → length (all_cells ps) ≡ pane_cells ps
 length_all_cells [] f = refl
 length_all_cells (p ∷ ps) f =
     let a = length-append (cells_of p.term.rows) (all_cells ps) in
@@ -112,7 +112,7 @@ storable n g v o w =
     }
 
 -- ONE PANE FITTED
-first_in : (P : Place → Type 0) (ps : List Pane) (qs : List Place) (q : Place) (os : List Place) → All P qs → first_unfit ps qs ≡ q ∷ os → P q
+first_in : (P : Place → Type 0) (ps : List Pane) (qs : List Place) (q : Place) (os : List Place) → AllByRecursion P qs → first_unfit ps qs ≡ q ∷ os → P q
 unfolding first_unfit
 first_in P ps [] q os f e = absurd (let z : ◌≡◌ {A = ℕ} 0 (suc (length os)) = ap length e in omega arith)
 first_in P ps (r ∷ qs) q os f e = go (cases_Bool (unfit ps r)) (first_in P ps qs q os f.1)
@@ -125,7 +125,7 @@ first_in P ps (r ∷ qs) q os f e = go (cases_Bool (unfit ps r)) (first_in P ps 
     go (inl u) later = let z : r ∷ [] ≡ q ∷ os = (rw u at e) in subst P (ap (head_of r) z) f.0
     go (inr u) later = later (rw u at e)
 
-held_panes : (n : ℕ) (g : Glass) (ps : List Pane) → Held n g → All PaneGood ps → Held n (with_panes g ps)
+held_panes : (n : ℕ) (g : Glass) (ps : List Pane) → Held n g → AllByRecursion PaneGood ps → Held n (with_panes g ps)
 held_panes n g ps o f = record { some_wide = o.some_wide; wide = o.wide; some_high = o.some_high; high = o.high; at = o.at; left = o.left; panes = f }
 
 pub mid_one : (n : ℕ) (g : Glass) (q : Place) (os : List Place) → Mid n g → first_unfit g.panes (all_places g) ≡ q ∷ os → Mid n (fit_one g q)
@@ -173,7 +173,7 @@ part_viewed known g v (attach a b) p w =
     fresh_viewed _ a b e.0 e.1 (let z = q.some_wide in omega arith) (let z = q.some_high in omega arith)
 
 -- AND WHOLE TURNS
-held_fit : (n : ℕ) (qs : List Place) (g : Glass) (ss : List Says) → All (λ q. SmallPlace q.rect) qs → Held n g → Held n (fit_places qs g ss).next
+held_fit : (n : ℕ) (qs : List Place) (g : Glass) (ss : List Says) → AllByRecursion (λ q. SmallPlace q.rect) qs → Held n g → Held n (fit_places qs g ss).next
 unfolding fit_places
 held_fit n [] g ss f o = o
 held_fit n (q ∷ qs) g ss f o =

@@ -1,6 +1,6 @@
 -- What is kept of each pane's terminal by all that can come: it is sound at its size, its cells can be drawn, and its numbers are small.
 use Rattle.std.proofs.Common.{◌≡◌, ℕ, zero, suc, ◌^◌, ◌≤◌, Bool, eqb, List, [], ◌∷◌, refl, arith}
-use Rattle.std.specs.List.{AllByRecursion as All}
+use Rattle.std.specs.List.{AllByRecursion}
 use Rattle.std.proofs.ByRecursion.{All-append}
 use Rattle.meaning.specs.Words.{each, those, flat}
 use Rattle.meaning.specs.Screen.{Term, fresh, fitted, with_answer}
@@ -42,20 +42,20 @@ small_in r s x y w h i = record { wide = low_wide r.wide refl; high = low_high r
     low_high (suc k) e = let z = i.down (omega arith) in omega arith
 
 -- all places of a glass
-pub places_small : (g : Glass) → g.wide ≤ 200 → g.high ≤ 60 → All (λ q. SmallPlace q.rect) (all_places g)
+pub places_small : (g : Glass) → g.wide ≤ 200 → g.high ≤ 60 → AllByRecursion (λ q. SmallPlace q.rect) (all_places g)
 places_small g w h = go g.windows
   where
-    weaker : (qs : List Place) → All (λ q. In q.rect (room g)) qs → All (λ q. SmallPlace q.rect) qs
+    weaker : (qs : List Place) → AllByRecursion (λ q. In q.rect (room g)) qs → AllByRecursion (λ q. SmallPlace q.rect) qs
     weaker [] f = tt
     weaker (q ∷ qs) f = (small_in q.rect (room g) refl refl w (omega arith) f.0, weaker qs f.1)
 
-    go : (vs : List Window) → All (λ q. SmallPlace q.rect) (flat (λ v. places v.layout (room g)) vs)
+    go : (vs : List Window) → AllByRecursion (λ q. SmallPlace q.rect) (flat (λ v. places v.layout (room g)) vs)
     go [] = tt
     go (v ∷ vs) = All-append (λ q. SmallPlace q.rect) _ _ (weaker _ (places_in v.layout (room g) (room g) (in_self (room g)))) (go vs)
 
-pub those_all : {A : Type 0} (P : A → Type 0) (b : A → Bool) (xs : List A) → All P xs → All P (those b xs)
+pub those_all : {A : Type 0} (P : A → Type 0) (b : A → Bool) (xs : List A) → AllByRecursion P xs → AllByRecursion P (those b xs)
 those_all P b [] f = tt
-those_all P b (x ∷ xs) f = pick_both (All P) (b x) _ _ (f.0, those_all P b xs f.1) (those_all P b xs f.1)
+those_all P b (x ∷ xs) f = pick_both (AllByRecursion P) (b x) _ _ (f.0, those_all P b xs f.1) (those_all P b xs f.1)
 
 -- a pane that comes up, that gets another size, and to which bytes are written
 pub fresh_good : (i : ℕ) (r : Rect) → SmallPlace r → PaneGood (record { id = i; term = fresh (pane_wide r) (pane_high r) })
@@ -86,7 +86,7 @@ fitted_good p r s o = record {
   silent = o.silent;
 }
 
-pub fit_good : (ps : List Pane) (q : Place) → SmallPlace q.rect → All PaneGood ps → All PaneGood (pane_fitted ps q)
+pub fit_good : (ps : List Pane) (q : Place) → SmallPlace q.rect → AllByRecursion PaneGood ps → AllByRecursion PaneGood (pane_fitted ps q)
 fit_good [] q s f = tt
 fit_good (p ∷ ps) q s f = (pick_both PaneGood _ _ p (fitted_good p q.rect s f.0) f.0, fit_good ps q s f.1)
 
@@ -106,11 +106,11 @@ written_good i p bs o =
       silent = refl;
     }
 
-set_good : (i : ℕ) (t : Term) (ps : List Pane) → PaneGood (record { id = i; term = t }) → All PaneGood ps → All PaneGood (each (set_term i t) ps)
+set_good : (i : ℕ) (t : Term) (ps : List Pane) → PaneGood (record { id = i; term = t }) → AllByRecursion PaneGood ps → AllByRecursion PaneGood (each (set_term i t) ps)
 set_good i t [] o f = tt
 set_good i t (p ∷ ps) o f = (pick_both PaneGood (eqb p.id i) _ p o f.0, set_good i t ps o f.1)
 
-pub bytes_good : (g : Glass) (i : ℕ) (bs : List ℕ) (ps : List Pane) → All PaneGood ps → All PaneGood g.panes → All PaneGood (on_bytes g i bs ps).next.panes
+pub bytes_good : (g : Glass) (i : ℕ) (bs : List ℕ) (ps : List Pane) → AllByRecursion PaneGood ps → AllByRecursion PaneGood g.panes → AllByRecursion PaneGood (on_bytes g i bs ps).next.panes
 unfolding on_bytes
 bytes_good g i bs [] o f = f
 bytes_good g i bs (p ∷ ps) o f = set_good i (with_answer (written p.term bs) []) g.panes (written_good i p bs o.0) f

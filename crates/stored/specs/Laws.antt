@@ -1,6 +1,6 @@
 -- What is promised of the map: which states it can keep, and that they are found again.
 use Rattle.std.specs.Prelude.{◌≡◌, ℕ, ◌+◌, ◌*◌, ◌^◌, ◌<◌, ◌≤◌, true, ◌⊎◌, List, [], length, drop, nat_lt, slice_index, slice_index_or}
-use Rattle.std.specs.List.{AllByRecursion as All}
+use Rattle.std.specs.List.{AllByRecursion}
 use Rattle.meaning.specs.Words.{every, flat, so_many}
 use Rattle.meaning.specs.Panes.{Glass, Window, Pane, ids, at_first}
 use Rattle.grid.specs.Cells.{rows_of, cells_of}
@@ -14,7 +14,7 @@ use Rattle.stored.specs.Many.{cells_room, head_part, headers_fit, all_asked, wer
 -- the panes' numbers are small
 pub record WindowKept (v : Window) : Type 0 where
   pub focus : v.focus < 2 ^ 47
-  pub panes : All (λ i. i < 2 ^ 47) (ids v.layout)
+  pub panes : AllByRecursion (λ i. i < 2 ^ 47) (ids v.layout)
 
 -- the terminal can be kept, and has as many cells as its size asks for
 pub record PaneKept (p : Pane) : Type 0 where
@@ -43,8 +43,8 @@ pub record GlassKept (g : Glass) : Type 0 where
   pub few_windows : length g.windows ≤ 8
   pub few_places : length (flat (λ v. ids v.layout) g.windows) ≤ 32
   pub few_panes : length g.panes ≤ 32
-  pub windows : All WindowKept g.windows
-  pub panes : All PaneKept g.panes
+  pub windows : AllByRecursion WindowKept g.windows
+  pub panes : AllByRecursion PaneKept g.panes
   pub few_cells : length (all_cells g.panes) ≤ cells_room
 
 pub record Storable (s : State) : Type 0 where
@@ -82,9 +82,9 @@ pub record InUse (h hs : List ℕ) : Type 0 where
   pub next : slice_index_or h 6 0 < 2 ^ 47
   pub few_windows : slice_index_or h 7 0 ≤ 8
   pub few_panes : slice_index_or h 8 0 ≤ 32
-  pub focuses : All (λ i. i < 2 ^ 47) (part h 16 8)
-  pub codes : All (λ x. x < 2 ^ 47 + 2) (part h 24 64)
-  pub numbers : All (λ i. i < 2 ^ 47) (part h 128 32)
+  pub focuses : AllByRecursion (λ i. i < 2 ^ 47) (part h 16 8)
+  pub codes : AllByRecursion (λ x. x < 2 ^ 47 + 2) (part h 24 64)
+  pub numbers : AllByRecursion (λ i. i < 2 ^ 47) (part h 128 32)
   pub layouts : were_read (layouts_in h) ≡ true
   pub headers : headers_fit (slice_index h 8) hs ≡ true
   pub cells : all_asked (slice_index h 8) hs ≤ cells_room
