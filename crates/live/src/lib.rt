@@ -1,5 +1,5 @@
 // The machine that runs: one step over lent memory, with no allocation and no input or output of its own. Each turn leaves the memory and tells the act
-// that the definition `detaching-machine` has.
+// that the definition `detaching_machine` has.
 #![tactic(auto)]
 
 mod bytes;
