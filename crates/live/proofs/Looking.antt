@@ -22,7 +22,7 @@ use Rattle.engine.specs.Memory.{memory_size, screen_at, cells_at, encode}
 use Rattle.engine.proofs.Areas.{part_over, part_over_above}
 use Rattle.engine.proofs.Maps.{placed}
 use Rattle.engine.proofs.Rewrites.{encode_screen}
-use Rattle.machine.specs.States.{terminal_in, glass_of, view_of, state_of}
+use Rattle.machine.specs.States.{terminal_in, glass_of, with_next, view_of}
 use Rattle.machine.specs.declared.state.Held.{Held}
 use Rattle.machine.specs.declared.state.Machine.{Machine}
 use Rattle.live.specs.Does.{Does}
@@ -37,40 +37,39 @@ use Rattle.live.proofs.Attached.{room_of, on_first, on_same, on_other}
 abbrev pub blanks : Size → List ℕ
 blanks s = so_many (s.high * s.wide) blank_number
 
-looked_is : (y : Machine) (s : Size) (n : ℕ) (p : Held) (m cs : List ℕ) (t : Term) → Looked s n p y → term_on p.terminal cs [] ≡ t
-    → anew y p m cs (blanks s) ≡ state (one_pane s.wide s.high p.id t n false) (fresh_view s.wide s.high)
-looked_is y s n p m cs t q e =
-    ap (λ (g : Glass). state (with_panes g (record { id = p.id; term = term_on p.terminal cs [] } ∷ [])) (record { wide = y.size.wide; high = y.size.high; cells = blanks s; pen = y.pen })) (q.glass m)
-    ∙ (ap (λ (u : Term). state (one_pane s.wide s.high p.id u n false) (record { wide = y.size.wide; high = y.size.high; cells = blanks s; pen = y.pen })) e
-    ∙ (ap (λ (z : Size). state (one_pane s.wide s.high p.id t n false) (record { wide = z.wide; high = z.high; cells = blanks s; pen = y.pen })) q.size
-    ∙ ap (λ (z : Pen). state (one_pane s.wide s.high p.id t n false) (record { wide = s.wide; high = s.high; cells = blanks s; pen = z })) q.pen))
+looked_is : (y : Machine) (s : Size) (n j : ℕ) (p : Held) (m cs : List ℕ) (t : Term) → Looked s n p y → term_on p.terminal cs [] ≡ t
+    → anew y j p m cs (blanks s) ≡ state (one_pane s.wide s.high p.id t j false) (fresh_view s.wide s.high)
+looked_is y s n j p m cs t q e =
+    ap (λ (g : Glass). state (with_panes (with_next g j) (record { id = p.id; term = term_on p.terminal cs [] } ∷ [])) (record { wide = y.size.wide; high = y.size.high; cells = blanks s; pen = y.pen })) (q.glass m)
+    ∙ (ap (λ (u : Term). state (one_pane s.wide s.high p.id u j false) (record { wide = y.size.wide; high = y.size.high; cells = blanks s; pen = y.pen })) e
+    ∙ (ap (λ (z : Size). state (one_pane s.wide s.high p.id t j false) (record { wide = z.wide; high = z.high; cells = blanks s; pen = y.pen })) q.size
+    ∙ ap (λ (z : Pen). state (one_pane s.wide s.high p.id t j false) (record { wide = s.wide; high = s.high; cells = blanks s; pen = z })) q.pen))
 
--- the pane's cells were written, the viewer's blanked, and the machine stored
-attached_memory : (y : Machine) (s : Size) (n : ℕ) (p : Held) (m m₁ m₂ m₃ cs : List ℕ) (t : Term) → length m ≡ 238304 → Looked s n p y
-    → m₁ ≡ over m 38304 cs → m₂ ≡ over m₁ 2304 (blanks s) → m₃ ≡ encode m₂ (state (glass_of y m₂) (view_of y m₂))
+-- the pane's cells were written, the viewer's blanked, and the machine stored with j as the next pane's number
+attached_memory : (y : Machine) (s : Size) (n j : ℕ) (p : Held) (m m₁ m₂ m₃ cs : List ℕ) (t : Term) → length m ≡ 238304 → Looked s n p y
+    → m₁ ≡ over m 38304 cs → m₂ ≡ over m₁ 2304 (blanks s) → m₃ ≡ encode m₂ (state (with_next (glass_of y m₂) j) (view_of y m₂))
     → length cs ≡ p.terminal.size.high * p.terminal.size.wide → term_on p.terminal cs [] ≡ t
-    → m₃ ≡ encode m (state (one_pane s.wide s.high p.id t n false) (fresh_view s.wide s.high))
-unfolding state_of
-attached_memory y s n p m m₁ m₂ m₃ cs t l q a b c k e =
+    → m₃ ≡ encode m (state (one_pane s.wide s.high p.id t j false) (fresh_view s.wide s.high))
+attached_memory y s n j p m m₁ m₂ m₃ cs t l q a b c k e =
     let lm : length m ≡ memory_size = l ∙ sym placed.size in
     let lv : length (blanks s) ≡ y.size.high * y.size.wide = length-replicate (s.high * s.wide) blank_number ∙ sym (ap (λ (z : Size). z.high * z.wide) q.size) in
     let o : m₂ ≡ over (over m cells_at cs) screen_at (blanks s) =
-    b ∙ (ap (λ (u : List ℕ). over u 2304 (blanks s)) a ∙ (ap (λ (j : ℕ). over (over m j cs) 2304 (blanks s)) (sym placed.cells) ∙ ap (λ (j : ℕ). over (over m cells_at cs) j (blanks s)) (sym placed.screen))) in
-    c ∙ (ap (λ (u : List ℕ). encode u (state (glass_of y u) (view_of y u))) o ∙ (after_both m cs (blanks s) y p lm q.pane k lv ∙ ap (encode m) (looked_is y s n p m cs t q e)))
+    b ∙ (ap (λ (u : List ℕ). over u 2304 (blanks s)) a ∙ (ap (λ (i : ℕ). over (over m i cs) 2304 (blanks s)) (sym placed.cells) ∙ ap (λ (i : ℕ). over (over m cells_at cs) i (blanks s)) (sym placed.screen))) in
+    c ∙ (ap (λ (u : List ℕ). encode u (state (with_next (glass_of y u) j) (view_of y u))) o ∙ (after_both m cs (blanks s) y j p lm q.pane k lv ∙ ap (encode m) (looked_is y s n j p m cs t q e)))
 
 -- the first gets a pane
-pub first_does : (x y : Machine) (s : Size) (p : Held) (m m₁ m₂ m₃ cs ys : List ℕ) (k : ℕ) → length m ≡ 238304 → x.pane ≡ None → Looked s (x.next + 1) p y → p.id ≡ x.next
-    → m₁ ≡ over m 38304 cs → m₂ ≡ over m₁ 2304 (blanks s) → m₃ ≡ encode m₂ (state (glass_of y m₂) (view_of y m₂))
+pub first_does : (x y : Machine) (s : Size) (p : Held) (m m₁ m₂ m₃ cs ys : List ℕ) (k : ℕ) → length m ≡ 238304 → x.pane ≡ None → Looked s x.next p y → p.id ≡ x.next
+    → m₁ ≡ over m 38304 cs → m₂ ≡ over m₁ 2304 (blanks s) → m₃ ≡ encode m₂ (state (with_next (glass_of y m₂) (x.next + 1)) (view_of y m₂))
     → length cs ≡ p.terminal.size.high * p.terminal.size.wide
     → term_on p.terminal cs [] ≡ fresh (pane_wide (room_of s.wide s.high)) (pane_high (room_of s.wide s.high))
     → k ≡ 65536 * x.next + 256 * pane_wide (room_of s.wide s.high) + pane_high (room_of s.wide s.high)
     → Does (turned x m (attach s.wide s.high)) m m₃ (Start k) ys ys
 unfolding said_or_going view_at ActTold SaysTold
-first_does x y s p m m₁ m₂ m₃ cs ys k l e q₀ i a b c n t f =
-    let q = subst (λ (j : ℕ). Looked s j p y) (omega arith) q₀ in
+first_does x y s p m m₁ m₂ m₃ cs ys k l e q i a b c n t f =
+    let up : x.next + 1 ≡ suc x.next = omega arith in
     subst (λ (o : Out). Does o m m₃ (Start k) ys ys) (ap (then_goes (fresh_view s.wide s.high)) (sym (on_first x m s.wide s.high e)))
     (record {
-      memory = attached_memory y s (suc x.next) p m m₁ m₂ m₃ cs _ l q a b c n t
+      memory = attached_memory y s x.next (suc x.next) p m m₁ m₂ m₃ cs _ l q a b (c ∙ ap (λ (j : ℕ). encode m₂ (state (with_next (glass_of y m₂) j) (view_of y m₂))) up) n t
           ∙ ap (λ (j : ℕ). encode m (state (one_pane s.wide s.high j (fresh (pane_wide (room_of s.wide s.high)) (pane_high (room_of s.wide s.high))) (suc x.next) false) (fresh_view s.wide s.high))) i;
       act = (ap Start f, refl);
     })
@@ -140,9 +139,10 @@ pub other_does : (x y : Machine) (s : Size) (p p₁ : Held) (m m₁ m₂ m₃ cs
     → Does (turned x m (attach s.wide s.high)) m m₃ (SizeIs k) ys ys
 unfolding said_or_going view_at ActTold SaysTold
 other_does x y s p p₁ m m₁ m₂ m₃ cs ys k l e z q i a b c n t f =
+    let u : y.next ≡ x.next = ap (λ (g : Glass). g.next) (q.glass m) in
     subst (λ (o : Out). Does o m m₃ (SizeIs k) ys ys) (ap (then_goes (fresh_view s.wide s.high)) (sym (on_other x p m s.wide s.high e z)))
     (record {
-      memory = attached_memory y s x.next p₁ m m₁ m₂ m₃ cs _ l q a b c n t
-          ∙ ap (λ (j : ℕ). encode m (state (one_pane s.wide s.high j (fitted (terminal_in p.terminal m) (pane_wide (room_of s.wide s.high)) (pane_high (room_of s.wide s.high))) x.next false) (fresh_view s.wide s.high))) i;
+      memory = attached_memory y s x.next y.next p₁ m m₁ m₂ m₃ cs _ l q a b c n t
+          ∙ (λ j. encode m (state (one_pane s.wide s.high (i j) (fitted (terminal_in p.terminal m) (pane_wide (room_of s.wide s.high)) (pane_high (room_of s.wide s.high))) (u j) false) (fresh_view s.wide s.high)));
       act = (ap SizeIs f, refl);
     })

@@ -18,13 +18,13 @@ use Rattle.engine.specs.Memory.{memory_size, screen_at, cells_at, encode}
 use Rattle.engine.proofs.Areas.{length_over, part_over}
 use Rattle.engine.proofs.Maps.{placed}
 use Rattle.engine.proofs.Rewrites.{encode_cells}
-use Rattle.machine.specs.States.{panes_of, glass_of, state_of}
+use Rattle.machine.specs.States.{panes_of, glass_of, with_next, view_of}
 use Rattle.machine.specs.declared.state.Held.{Held}
 use Rattle.machine.specs.declared.state.Machine.{Machine}
 use Rattle.machine.proofs.Stays.{lent_over, length_part}
 use Rattle.live.specs.Fits.{Fitted}
 use Rattle.live.proofs.Lent.{few_cells}
-use Rattle.live.proofs.Viewing.{after_cells}
+use Rattle.live.proofs.Viewing.{after_cells_next}
 
 -- what was lent to the terminal for its new size is in the memory
 pub fit_done : (t : Terminal) (m old new : List ℕ) (s : Size) (n : ℕ) (r : Bool) (t₁ : Terminal) (new₁ : List ℕ) → length m ≡ 238304 → n ≡ s.high * s.wide
@@ -62,23 +62,24 @@ panes_anew m cs o p l e n =
     ap (λ (j : ℕ). part (over m cells_at cs) cells_at j) (sym n) ∙ part_over m cells_at cs (omega arith) in
     ap (λ (z : Option Held). panes_of z (over m cells_at cs)) e ∙ ap (λ (xs : List ℕ). record { id = p.id; term = term_on p.terminal xs [] } ∷ []) c
 
--- the state of x with these cells in its pane p and on the viewer's screen
-abbrev pub anew : Machine → Held → List ℕ → List ℕ → List ℕ → State
-anew x p m cs vs = state (with_panes (glass_of x m) (record { id = p.id; term = term_on p.terminal cs [] } ∷ [])) (record { wide = x.size.wide; high = x.size.high; cells = vs; pen = x.pen })
+-- the state of x with j as the next pane's number, and with these cells in its pane p and on the viewer's screen
+abbrev pub anew : Machine → ℕ → Held → List ℕ → List ℕ → List ℕ → State
+anew x j p m cs vs = state (with_panes (with_next (glass_of x m) j) (record { id = p.id; term = term_on p.terminal cs [] } ∷ [])) (record { wide = x.size.wide; high = x.size.high; cells = vs; pen = x.pen })
 
 -- stored after both were written anew, the machine is as the definition puts it into the memory as it was
-pub after_both : (m cs vs : List ℕ) (x : Machine) (p : Held) → length m ≡ memory_size → x.pane ≡ Some p → length cs ≡ p.terminal.size.high * p.terminal.size.wide
+pub after_both : (m cs vs : List ℕ) (x : Machine) (j : ℕ) (p : Held) → length m ≡ memory_size → x.pane ≡ Some p → length cs ≡ p.terminal.size.high * p.terminal.size.wide
     → length vs ≡ x.size.high * x.size.wide
-    → encode (over (over m cells_at cs) screen_at vs) (state_of x (over (over m cells_at cs) screen_at vs)) ≡ encode m (anew x p m cs vs)
-after_both m cs vs x p l e n q =
+    → encode (over (over m cells_at cs) screen_at vs) (state (with_next (glass_of x (over (over m cells_at cs) screen_at vs)) j) (view_of x (over (over m cells_at cs) screen_at vs)))
+    ≡ encode m (anew x j p m cs vs)
+after_both m cs vs x j p l e n q =
     let k = placed in
     let f = few_cells p.terminal.size in
     let s = p.terminal.size in
     let lo : length (over m cells_at cs) ≡ memory_size = length_over m cells_at cs (omega arith) ∙ l in
     let c : cells_of (rows_of s.wide s.high cs) ≡ cs = cells_of_rows s.wide s.high cs n in
-    after_cells (over m cells_at cs) vs x lo q
-    ∙ (ap (λ (ps : List Pane). encode (over m cells_at cs) (state (with_panes (glass_of x m) ps) (record { wide = x.size.wide; high = x.size.high; cells = vs; pen = x.pen }))) (panes_anew m cs x.pane p l e n)
-    ∙ encode_cells m cs (anew x p m cs vs) (record { id = p.id; term = term_on p.terminal cs [] }) [] l refl (ap length c) (omega arith))
+    after_cells_next (over m cells_at cs) vs x j lo q
+    ∙ (ap (λ (ps : List Pane). encode (over m cells_at cs) (state (with_panes (with_next (glass_of x m) j) ps) (record { wide = x.size.wide; high = x.size.high; cells = vs; pen = x.pen }))) (panes_anew m cs x.pane p l e n)
+    ∙ encode_cells m cs (anew x j p m cs vs) (record { id = p.id; term = term_on p.terminal cs [] }) [] l refl (ap length c) (omega arith))
 
 -- cells lent by their size are as many as that asks for
 pub lent_on : (m : List ℕ) (s : Size) (n : ℕ) → length m ≡ 238304 → n ≡ s.high * s.wide → on_screen s.wide s.high (take ((38304 + n) - 38304) (drop 38304 m)) ≡ true

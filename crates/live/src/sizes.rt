@@ -13,7 +13,7 @@ use crate::show::advance;
 use grid::cell::BLANK;
 use grid::size::Size;
 use machine::state::{Held, Machine};
-use machine::store;
+use machine::{store, store_with_next};
 use meaning::Told;
 use render::pen::Pen;
 use terminal::state::Terminal;
@@ -60,7 +60,7 @@ fn fit(memory: &mut [u64], terminal: &mut Terminal, size: Size)
 
 // The machine of whoever has just attached.
 fn looked_at(size: Size, next: u64, pane: Held) -> Machine
-    requires { next ≤ 2 ^ 47 }
+    requires { next < 2 ^ 47 }
     ensures { Looked size next pane result }
 {
     Machine {
@@ -95,7 +95,8 @@ pub(crate) fn attach_first(memory: &mut [u64], x: Machine, size: Size) -> Told
         return Told::No(0);
     };
     clear_view(memory, size);
-    store(memory, looked_at(size, id + 1, Held { id, terminal }));
+    let y = looked_at(size, id, Held { id, terminal });
+    store_with_next(memory, y, id + 1);
     Told::Start(pane_and_size(id, place))
 }
 

@@ -9,9 +9,10 @@ use Rattle.grid.proofs.Codes.{cells_of_rows}
 use Rattle.terminal.specs.Terms.{term_of}
 use Rattle.header.specs.Header.{header_of}
 use Rattle.engine.specs.Areas.{part, put}
+use Rattle.engine.specs.State.{state}
 use Rattle.engine.specs.Memory.{header_at, screen_at, cells_at, head_of, with_cells, with_header, encode}
 use Rattle.engine.proofs.Maps.{placed}
-use Rattle.machine.specs.States.{terminal_in, panes_of, glass_of, view_of, state_of}
+use Rattle.machine.specs.States.{terminal_in, panes_of, glass_of, with_next, view_of}
 use Rattle.machine.specs.declared.state.Held.{Held}
 use Rattle.machine.specs.declared.state.Machine.{Machine}
 use Rattle.machine.proofs.Stays.{small, small_part, length_part, lent_put, part_lent_above, put_part}
@@ -39,11 +40,12 @@ header_placed m hs o p l lh is e s y =
     ∙ (ap (λ (a : ℕ). put m a hs) (sym placed.header)
     ∙ (ap (put m header_at) (e (terminal_in p.terminal y).rows []) ∙ ap (λ (z : Option Held). with_header m (panes_of z y)) (sym is)))
 
-pub stored_is : (x : Machine) (m mid hs : List ℕ) → length m ≡ 238304 → length mid ≡ 238304 → length hs ≡ 16
-    → mid ≡ with_header m (panes_of x.pane m) → ((b n : ℕ) → 320 ≤ b → part mid b n ≡ part m b n) → hs ≡ head_of (glass_of x m) (view_of x m)
-    → small (put_mid 0 16 mid hs) ≡ true → put_mid 0 16 mid hs ≡ encode m (state_of x m)
-unfolding encode state_of
-stored_is x m mid hs l lm lh e above f s =
+-- the machine x stored, with n as the number that the next pane gets
+pub stored_is : (x : Machine) (n : ℕ) (m mid hs : List ℕ) → length m ≡ 238304 → length mid ≡ 238304 → length hs ≡ 16
+    → mid ≡ with_header m (panes_of x.pane m) → ((b n : ℕ) → 320 ≤ b → part mid b n ≡ part m b n) → hs ≡ head_of (with_next (glass_of x m) n) (view_of x m)
+    → small (put_mid 0 16 mid hs) ≡ true → put_mid 0 16 mid hs ≡ encode m (state (with_next (glass_of x m) n) (view_of x m))
+unfolding encode
+stored_is x n m mid hs l lm lh e above f s =
     let k = placed in
     let new : List ℕ = put_mid 0 16 mid hs in
     let ps : List Pane = panes_of x.pane m in
@@ -53,7 +55,7 @@ stored_is x m mid hs l lm lh e above f s =
     let smalls : (b n : ℕ) → 320 ≤ b → small (part m b n) ≡ true = (λ b n h. subst (λ (y : List ℕ). small y ≡ true) (same b n h) (small_part new b n s)) in
     let view : put m screen_at vs ≡ m =
     (let c = few_cells x.size in put_part m screen_at (x.size.high * x.size.wide) (omega arith) (smalls screen_at (x.size.high * x.size.wide) (omega arith))) in
-    let pane : with_cells m ps ≡ m = pane_stays m x.pane l (λ n. smalls cells_at n (omega arith)) in
+    let pane : with_cells m ps ≡ m = pane_stays m x.pane l (λ j. smalls cells_at j (omega arith)) in
     lent_put mid 0 16 hs (omega arith) lh s
     ∙ (ap (λ (y : List ℕ). put y 0 hs) e
-    ∙ (ap (put (with_header m ps) 0) f ∙ ap (λ (y : List ℕ). put (with_header y ps) 0 (head_of (glass_of x m) (view_of x m))) (sym (ap (λ (y : List ℕ). put y screen_at vs) pane ∙ view))))
+    ∙ (ap (put (with_header m ps) 0) f ∙ ap (λ (y : List ℕ). put (with_header y ps) 0 (head_of (with_next (glass_of x m) n) (view_of x m))) (sym (ap (λ (y : List ℕ). put y screen_at vs) pane ∙ view))))

@@ -39,6 +39,10 @@ glass_of x m = record {
   prefix = x.prefix;
 }
 
+-- the glass with n as the number that the next pane gets
+abbrev pub with_next : Glass → ℕ → Glass
+with_next g n = record { wide = g.wide; high = g.high; attached = g.attached; windows = g.windows; at = g.at; panes = g.panes; next = n; prefix = g.prefix }
+
 abbrev pub view_of : Machine → List ℕ → View
 view_of x m = record { wide = x.size.wide; high = x.size.high; cells = part m screen_at (x.size.high * x.size.wide); pen = x.pen }
 
@@ -77,4 +81,10 @@ Loads m (Is x) = (memory_fits m ≡ true) × (decode m ≡ state_of x m) × (x.n
 pub record Stored (x : Machine) (old : List ℕ) (r : Bool) (new : List ℕ) : Type 0 where
   pub told : r ≡ (length old == memory_size)
   pub done : r ≡ true → new ≡ encode old (state_of x old)
+  pub kept : r ≡ false → new ≡ old
+
+-- likewise, but with n as the number that the next pane gets
+pub record StoredWithNext (x : Machine) (n : ℕ) (old : List ℕ) (r : Bool) (new : List ℕ) : Type 0 where
+  pub told : r ≡ (length old == memory_size)
+  pub done : r ≡ true → new ≡ encode old (state (with_next (glass_of x old) n) (view_of x old))
   pub kept : r ≡ false → new ≡ old

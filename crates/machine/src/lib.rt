@@ -6,4 +6,4 @@ pub mod state;
 mod storing;
 
 pub use loading::load;
-pub use storing::store;
+pub use storing::{store, store_with_next};

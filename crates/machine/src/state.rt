@@ -1,5 +1,5 @@
 // The machine's state but for cells, which stay in its memory. This file cites no definition of specs/.
-ghost use Rattle.std.specs.Prelude.{◌^◌, ◌<◌, ◌≤◌};
+ghost use Rattle.std.specs.Prelude.{◌^◌, ◌<◌};
 
 use grid::size::Size;
 use render::pen::Pen;
@@ -13,8 +13,7 @@ pub struct Held {
     ghost id_ok: { id < 2 ^ 47 },
 }
 
-// `prefix` says whether the prefix key has come, `next` is the number that the next pane gets, which is below 2^47 in a machine that was loaded; `pen` is
-// the viewer's.
+// `prefix` says whether the prefix key has come, `next` is the number that the next pane gets; `pen` is the viewer's.
 #[derive(Clone, Copy)]
 pub struct Machine {
     pub size: Size,
@@ -23,7 +22,7 @@ pub struct Machine {
     pub next: u64,
     pub pane: Option<Held>,
     pub pen: Pen,
-    ghost next_ok: { next ≤ 2 ^ 47 },
+    ghost next_ok: { next < 2 ^ 47 },
 }
 
 // What a memory holds: no state, that of a machine to which nothing has come yet, or another.

@@ -3,7 +3,7 @@ ghost use Rattle.std.specs.Prelude.{◌≡◌, ℕ, ◌≤◌, List, length};
 ghost use Rattle.header.specs.Header.{bit};
 ghost use Rattle.engine.specs.Areas.{part};
 ghost use Rattle.engine.specs.Memory.{rendition_number, has_pane, pane_number, head_of, with_header};
-ghost use Rattle.machine.specs.States.{panes_of, glass_of, view_of, Stored};
+ghost use Rattle.machine.specs.States.{panes_of, glass_of, view_of, with_next, Stored, StoredWithNext};
 
 use crate::state::{Held, Machine};
 use grid::cell::{Glyph, Rendition, pack};
@@ -33,8 +33,9 @@ fn pane_numbers(pane: Option<Held>) -> (u64, u64)
     }
 }
 
-fn head_numbers(x: Machine) -> [u64; 16]
-    ensures { (m : List ℕ) → result ≡ head_of (glass_of x m) (view_of x m) }
+// `next` is the number that the next pane gets.
+fn head_numbers(x: Machine, next: u64) -> [u64; 16]
+    ensures { (m : List ℕ) → result ≡ head_of (with_next (glass_of x m) next) (view_of x m) }
 {
     let (has, id) = pane_numbers(x.pane);
     [
@@ -43,7 +44,7 @@ fn head_numbers(x: Machine) -> [u64; 16]
         x.size.high as u64,
         bit_of(x.attached),
         bit_of(x.prefix),
-        x.next,
+        next,
         has,
         id,
         x.pen.row as u64,
@@ -71,14 +72,22 @@ fn store_pane(memory: &mut [u64], pane: Option<Held>)
     }
 }
 
-// Whether the memory has its size; if so it holds the state of `x`, with the cells as they are, and else it stays.
-pub fn store(memory: &mut [u64], x: Machine) -> bool
-    ensures { Stored x memory.old result memory.new }
+// Whether the memory has its size; if so it holds the state of `x` but with `next` as the number that the next pane gets, with the cells as they are, and
+// else it stays.
+pub fn store_with_next(memory: &mut [u64], x: Machine, next: u64) -> bool
+    ensures { StoredWithNext x next memory.old result memory.new }
 {
     if memory.len() != 238304 {
         return false;
     }
     store_pane(memory, x.pane);
-    memory[0..16].copy_from_slice(&head_numbers(x));
+    memory[0..16].copy_from_slice(&head_numbers(x, next));
     true
+}
+
+// Whether the memory has its size; if so it holds the state of `x`, with the cells as they are, and else it stays.
+pub fn store(memory: &mut [u64], x: Machine) -> bool
+    ensures { Stored x memory.old result memory.new }
+{
+    store_with_next(memory, x, x.next)
 }

@@ -3,7 +3,7 @@ use Rattle.std.proofs.lemmas.Bool.{both_ways}
 use Rattle.meaning.specs.Screen.{fresh}
 use Rattle.grid.specs.declared.size.Size.{Size}
 use Rattle.machine.proofs.Stays.{lent_over}
-use Rattle.live.proofs.Going.{stored_done}
+use Rattle.live.proofs.Going.{stored_next_done}
 use Rattle.live.proofs.Sized.{lent_long, lent_on}
 use Rattle.live.proofs.Looking.{first_does}
 use Rattle.live.proofs.sizes.attach_first.Goals as goal
@@ -23,8 +23,8 @@ returns c = λ ys.
     let h = c.place_of-place.ensures.high in
     let e = c.in-Some.ensures in
     let lc : length cs ≡ n = c.start.auto.cells ∙ lent_long m s n c.requires.memory c.cells-n.ensures.0 in
-    first_does c.args.x c.looked_at.result c.args.size _ m _ c.clear_view.new.memory c.store.new.memory cs ys c.pane_and_size.result c.requires.memory c.requires.none c.looked_at.ensures refl
-    (lent_over m 38304 _ cs (omega arith)) c.clear_view.ensures (stored_done c.looked_at.result c.clear_view.new.memory _ _ c.store.ensures (omega arith))
+    first_does c.args.x c.looked_at-y.result c.args.size _ m _ c.clear_view.new.memory c.store_with_next.new.memory cs ys c.pane_and_size.result c.requires.memory c.requires.none c.looked_at-y.ensures refl
+    (lent_over m 38304 _ cs (omega arith)) c.clear_view.ensures (stored_next_done c.looked_at-y.result (c.args.x.next + 1) c.clear_view.new.memory _ _ c.store_with_next.ensures (omega arith))
     (lc ∙ (c.cells-n.ensures.0 ∙ sym (ap (λ (z : Size). z.high * z.wide) e.1)))
     (e.2 [] ∙ (λ i. fresh (w i) (h i)))
     (c.pane_and_size.ensures ∙ (λ i. 65536 * c.args.x.next + 256 * w i + h i))
