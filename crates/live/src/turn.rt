@@ -3,7 +3,7 @@ ghost use Rattle.std.specs.Prelude.{◌≡◌, ℕ, ◌≤◌, List, length};
 ghost use Rattle.meaning.specs.Panes.{at_first};
 ghost use Rattle.meaning.specs.Promise.{wait};
 ghost use Rattle.meaning.specs.Entry.{told_of};
-ghost use Rattle.engine.specs.State.{out as out_of_lem, fresh_view};
+ghost use Rattle.engine.specs.State.{out as out_of, fresh_view};
 ghost use Rattle.machine.specs.States.{Loads};
 ghost use Rattle.machine.specs.declared.state.Loaded.TheVariants.{First, Is};
 ghost use Rattle.live.specs.Does.{Does};
@@ -40,7 +40,7 @@ fn at_first() -> Machine
 // Nothing is there yet, and nothing is done; but from now on the memory holds the machine.
 fn settle_in(memory: &mut [u64]) -> Told
     requires { length memory.old ≡ 238304 }
-    ensures { (ys : List ℕ) → Does (out_of_lem at_first (fresh_view 1 1) wait) memory.old memory.new result ys ys }
+    ensures { (ys : List ℕ) → Does (out_of at_first (fresh_view 1 1) wait) memory.old memory.new result ys ys }
 {
     let x = at_first();
     clear_view(memory, x.size);

@@ -3,7 +3,7 @@ ghost use Rattle.std.specs.Prelude.{◌≡◌, ℕ, ◌^◌, ◌<◌, ◌≤◌,
 ghost use Rattle.meaning.specs.Panes.{send, key, window_at, current};
 ghost use Rattle.meaning.specs.Promise.{says};
 ghost use Rattle.meaning.specs.Entry.{SaysTold};
-ghost use Rattle.engine.specs.State.{out as out_of_lem};
+ghost use Rattle.engine.specs.State.{out as out_of};
 ghost use Rattle.machine.specs.States.{glass_of, view_of, windows_of};
 ghost use Rattle.turns.specs.Does.{Does, Turns};
 ghost use Rattle.turns.specs.Turned.{turned, Prefixed};
@@ -58,7 +58,7 @@ fn with_prefix(x: Machine, prefix: bool) -> Machine
 fn say_key(memory: &mut [u64], x: Machine, c: u8, out: &mut [u8]) -> Told
     requires memory { length memory.old ≡ 238304 }
     requires out { 65536 ≤ length out.old }
-    ensures { Does (out_of_lem (glass_of x memory.old) (view_of x memory.old) (says (send (current (glass_of x memory.old)).focus (c ∷ []))))
+    ensures { Does (out_of (glass_of x memory.old) (view_of x memory.old) (says (send (current (glass_of x memory.old)).focus (c ∷ []))))
         memory.old memory.new result out.old out.new }
 {
     store(memory, x);
