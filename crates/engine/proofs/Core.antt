@@ -5,7 +5,7 @@ use Rattle.meaning.specs.Words.{pick, none_of}
 use Rattle.meaning.specs.Screen.{Term, with_answer, fresh, fitted}
 use Rattle.meaning.specs.Bytes.{written}
 use Rattle.meaning.specs.Panes.{Glass, key, from, gone, attach, Turn, send, over, turn, fit_places, settled, places, pane, Rect, rect, pane_wide, pane_high, as_large, on_bytes, without, ids, gone_before}
-use Rattle.engine.proofs.Keyed.{on_unseen, on_prefix, on_plain, on_again, on_leave, on_other}
+use Rattle.engine.proofs.Keyed.{key_turn}
 
 -- one window with one pane
 pub record One : Type 0 where
@@ -71,25 +71,9 @@ KeyEmpty t w h n = (a b : Bool) × (t.next ≡ empty w h a n b) × (length t.say
 
 module _ (known : ℕ → Bool) (few : (c : ℕ) → (c ≡ 100 → ⊥) → known c ≡ false) where
   pub key_next : (u : One) (c : ℕ) → KeyNext (turn known (one_glass u) (key c)) u
-  key_next u c = go (cases_Bool u.attached) (cases_Bool u.prefix) (cases_eq c 1) (cases_eq c 100)
-    where
-      g : Glass
-      g = one_glass u
-
-      by : (t : Turn) → turn known g (key c) ≡ t → KeyNext t u → KeyNext (turn known g (key c)) u
-      by t e k = subst (λ (z : Turn). KeyNext z u) (sym e) k
-
-      go : (u.attached ≡ true) ⊎ (u.attached ≡ false) → (u.prefix ≡ true) ⊎ (u.prefix ≡ false) → (c ≡ 1) ⊎ (c ≡ 1 → ⊥) → (c ≡ 100) ⊎ (c ≡ 100 → ⊥)
-          → KeyNext (turn known g (key c)) u
-      go (inr d) p e f = by _ (on_unseen known g c d) (u.attached, u.prefix, refl, omega arith)
-      go (inl d) (inr p) (inl e) f = by _ (on_prefix known g c d p e) (u.attached, true, refl, omega arith)
-      go (inl d) (inr p) (inr e) f = by _ (on_plain known g c d p (ne_eqb c 1 e)) (u.attached, u.prefix, refl, omega arith)
-      go (inl d) (inl p) (inl e) f = by _ (on_again known g c d p e) (u.attached, false, refl, omega arith)
-      go (inl d) (inl p) (inr e) (inl f) = elim (cases_Bool (known 100)) [
-        | inl k ↦ by _ (on_leave known g c d p f k) (false, false, refl, omega arith)
-        | inr k ↦ by _ (on_other known g c d p (ne_eqb c 1 e) (ap known f ∙ k)) (u.attached, false, refl, omega arith)
-      ]
-      go (inl d) (inl p) (inr e) (inr f) = by _ (on_other known g c d p (ne_eqb c 1 e) (few c f)) (u.attached, false, refl, omega arith)
+  key_next u c =
+      let k = key_turn known few (one_glass u) c in
+      (k.attached, k.prefix, ap (λ (t : Turn). t.next) k.turns, subst (λ (t : Turn). length t.says ≤ 1) (sym k.turns) k.one)
 
   -- another size
   pub attach_next : (u : One) (w h : ℕ) → ((turn known (one_glass u) (attach w h)).next ≡ one_glass (resized u w h)) × (length (turn known (one_glass u) (attach w h)).says ≤ 1)
@@ -127,24 +111,9 @@ module _ (known : ℕ → Bool) (few : (c : ℕ) → (c ≡ 100 → ⊥) → kno
       (simp (self n, self (pane_wide (room_of w h)), self (pane_high (room_of w h))), simp (self n, self (pane_wide (room_of w h)), self (pane_high (room_of w h))) (omega arith))
 
   pub key_empty : (w h n : ℕ) (a p : Bool) (c : ℕ) → KeyEmpty (turn known (empty w h a n p) (key c)) w h n
-  key_empty w h n a p c = go (cases_Bool a) (cases_Bool p) (cases_eq c 1) (cases_eq c 100)
-    where
-      g : Glass
-      g = empty w h a n p
-
-      by : (t : Turn) → turn known g (key c) ≡ t → KeyEmpty t w h n → KeyEmpty (turn known g (key c)) w h n
-      by t e k = subst (λ (z : Turn). KeyEmpty z w h n) (sym e) k
-
-      go : (a ≡ true) ⊎ (a ≡ false) → (p ≡ true) ⊎ (p ≡ false) → (c ≡ 1) ⊎ (c ≡ 1 → ⊥) → (c ≡ 100) ⊎ (c ≡ 100 → ⊥) → KeyEmpty (turn known g (key c)) w h n
-      go (inr d) q e f = by _ (on_unseen known g c d) (a, p, refl, omega arith)
-      go (inl d) (inr q) (inl e) f = by _ (on_prefix known g c d q e) (a, true, refl, omega arith)
-      go (inl d) (inr q) (inr e) f = by _ (on_plain known g c d q (ne_eqb c 1 e)) (a, p, refl, omega arith)
-      go (inl d) (inl q) (inl e) f = by _ (on_again known g c d q e) (a, false, refl, omega arith)
-      go (inl d) (inl q) (inr e) (inl f) = elim (cases_Bool (known 100)) [
-        | inl k ↦ by _ (on_leave known g c d q f k) (false, false, refl, omega arith)
-        | inr k ↦ by _ (on_other known g c d q (ne_eqb c 1 e) (ap known f ∙ k)) (a, false, refl, omega arith)
-      ]
-      go (inl d) (inl q) (inr e) (inr f) = by _ (on_other known g c d q (ne_eqb c 1 e) (few c f)) (a, false, refl, omega arith)
+  key_empty w h n a p c =
+      let k = key_turn known few (empty w h a n p) c in
+      (k.attached, k.prefix, ap (λ (t : Turn). t.next) k.turns, subst (λ (t : Turn). length t.says ≤ 1) (sym k.turns) k.one)
 
   pub from_empty : (w h n : ℕ) (a p : Bool) (i : ℕ) (bs : List ℕ) → ((turn known (empty w h a n p) (from i bs)).next ≡ empty w h a n p) × ((turn known (empty w h a n p) (from i bs)).says ≡ [])
   unfolding turn on_bytes

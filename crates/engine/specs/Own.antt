@@ -1,4 +1,4 @@
--- The machine whose steps the code goes. It keeps its memory and waits, whatever comes, until the code of the one in Core has been written.
+-- A machine that keeps its memory and waits, whatever comes: the steps of crate glass. The one that runs is in Detaching.
 use Rattle.meaning.specs.Words.{so_many}
 use Rattle.meaning.specs.Promise.{Engine, wait}
 use Rattle.engine.specs.Memory.{memory_size}

@@ -1,4 +1,5 @@
-// The machine as a definition (specs/Own.antt) and what is proved of it.
+// Machines as definitions, and what is proved of them: the one that runs, which knows d (specs/Detaching.antt), one that knows no key (Core) and one that only
+// waits (Own).
 #![tactic(auto)]
 
 ghost use Rattle.meaning.specs.Promise.{Steady, Whole, core, detaching};
@@ -14,14 +15,14 @@ pub fn steady_stands() -> u8
     0
 }
 
-// The whole promise, of the machine for one window with one pane.
+// The whole promise, of the machine for one window with one pane that knows no key.
 pub fn whole_core_stands() -> u8
     ensures { Whole core core_machine }
 {
     0
 }
 
-// The whole promise, of the machine that knows d besides.
+// And of the machine that runs, which knows d.
 pub fn whole_stands() -> u8
     ensures { Whole detaching detaching_machine }
 {

@@ -1,4 +1,4 @@
-// The machine that runs: one step over lent memory, with no allocation and no input or output of its own.
+// A step over lent memory that only waits, as the definition `own` does. The machine that runs is in crate live, which is to take this place.
 #![tactic(auto)]
 
 ghost use Rattle.std.specs.Prelude.{◌≡◌};

@@ -1,4 +1,5 @@
-// The glass over files: a day on standard input, or in the file named as the argument, and the machine's acts on standard output.
+// The glass over files: a day on standard input, or in the file named as the argument, and on standard output the acts of the step
+// that only waits. Those of the machine that runs are act_day's.
 #![tactic(auto)]
 
 use anyhow::anyhow;

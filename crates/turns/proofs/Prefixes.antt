@@ -34,28 +34,6 @@ pub say_does : (x : Machine) (m m₁ ys ys₁ : List ℕ) (i c : ℕ) (r : Told)
 unfolding ActTold
 say_does x m m₁ ys ys₁ i c r e f s = record { memory = e; act = subst (λ (j : ℕ). SaysTold (send j (c ∷ [])) r ys ys₁) f s }
 
--- what the plain glass does with a key
-pub on_unseen : (g : Glass) (c : ℕ) → g.attached ≡ false → turn core g (key c) ≡ turn_of g []
-unfolding turn
-on_unseen g c a = rw a
-
-pub on_prefix : (g : Glass) (c : ℕ) → g.attached ≡ true → g.prefix ≡ false → c ≡ 1 → turn core g (key c) ≡ turn_of (with_prefix g true) []
-unfolding turn
-on_prefix g c a p e = rw (a, p, e)
-
-pub on_plain : (g : Glass) (c : ℕ) → g.attached ≡ true → g.prefix ≡ false → eqb c 1 ≡ false → turn core g (key c) ≡ turn_of g (send (current g).focus (c ∷ []) ∷ [])
-unfolding turn
-on_plain g c a p e = rw (a, p, e)
-
-pub on_again : (g : Glass) (c : ℕ) → g.attached ≡ true → g.prefix ≡ true → c ≡ 1
-    → turn core g (key c) ≡ turn_of (with_prefix g false) (send (current (with_prefix g false)).focus (c ∷ []) ∷ [])
-unfolding turn command
-on_again g c a p e = rw (a, p, e)
-
-pub on_other : (g : Glass) (c : ℕ) → g.attached ≡ true → g.prefix ≡ true → eqb c 1 ≡ false → turn core g (key c) ≡ turn_of (with_prefix g false) []
-unfolding turn command
-on_other g c a p e = rw (a, p, e)
-
 -- the machine goes on after a key, or says it
 pub key_goes : (x y : Machine) (p : Bool) (m m₁ ys ys₁ : List ℕ) (c : ℕ) (r : Told) → Prefixed x p y → turn core (glass_of x m) (key c) ≡ turn_of (with_prefix (glass_of x m) p) []
     → Does (going (glass_of y m) (view_of y m)) m m₁ r ys ys₁ → Does (turned x m (key c)) m m₁ r ys ys₁

@@ -1,4 +1,4 @@
-// What the machine does in one step, over its memory: each turn leaves the memory and tells the act that the definition has.
+// What a machine that knows no key after the prefix does in one step, over its memory: each turn leaves the memory and tells the act that the definition has.
 #![tactic(auto)]
 
 pub mod ends;
