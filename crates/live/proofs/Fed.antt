@@ -13,7 +13,7 @@ use Rattle.engine.proofs.Maps.{placed}
 use Rattle.machine.specs.States.{terminal_in}
 use Rattle.machine.proofs.Stays.{lent_over}
 use Rattle.live.specs.Answered.{Answered}
-use Rattle.live.proofs.Lent.{few_cells, lent_cells, lent_row}
+use Rattle.turns.proofs.Lent.{few_cells, lent_cells, lent_row}
 
 -- the pane's cells, as they are lent
 pub length_lent : (m : List ℕ) (k : ℕ) → k ≤ 12000 → length m ≡ 238304 → length (take ((38304 + k) - 38304) (drop 38304 m)) ≡ k

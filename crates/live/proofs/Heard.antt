@@ -24,9 +24,10 @@ use Rattle.machine.specs.States.{terminal_in, glass_of, view_of}
 use Rattle.machine.specs.declared.state.Held.{Held}
 use Rattle.machine.specs.declared.state.Machine.{Machine}
 use Rattle.live.specs.Answered.{Answered}
-use Rattle.live.specs.Does.{Does}
-use Rattle.live.specs.Turned.{then_goes, turned, with_terminal, Retermed}
-use Rattle.live.proofs.Lent.{few_cells}
+use Rattle.turns.specs.Does.{Does}
+use Rattle.turns.specs.Turned.{then_goes}
+use Rattle.live.specs.Turned.{turned, with_terminal, Retermed}
+use Rattle.turns.proofs.Lent.{few_cells}
 
 -- WHAT THE PLAIN GLASS DOES
 -- the pane's terminal after the bytes, with its answer taken away

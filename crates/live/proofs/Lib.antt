@@ -1,9 +1,4 @@
-mod Lent
-mod Viewing
-mod Going
-mod Drawing
-mod Prefixes
-mod Gone
+mod Leaving
 mod Sized
 mod Attached
 mod Looking

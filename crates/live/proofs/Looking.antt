@@ -25,10 +25,11 @@ use Rattle.engine.proofs.Rewrites.{encode_screen}
 use Rattle.machine.specs.States.{terminal_in, glass_of, with_next, view_of}
 use Rattle.machine.specs.declared.state.Held.{Held}
 use Rattle.machine.specs.declared.state.Machine.{Machine}
-use Rattle.live.specs.Does.{Does}
-use Rattle.live.specs.Turned.{then_goes, turned, Looked}
-use Rattle.live.proofs.Lent.{few_cells}
-use Rattle.live.proofs.Viewing.{length_pane}
+use Rattle.turns.specs.Does.{Does}
+use Rattle.turns.specs.Turned.{then_goes}
+use Rattle.live.specs.Turned.{turned, Looked}
+use Rattle.turns.proofs.Lent.{few_cells}
+use Rattle.turns.proofs.Viewing.{length_pane}
 use Rattle.live.proofs.Heard.{going_keeps}
 use Rattle.live.proofs.Sized.{anew, after_both}
 use Rattle.live.proofs.Attached.{room_of, on_first, on_same, on_other}

@@ -23,8 +23,8 @@ use Rattle.machine.specs.declared.state.Held.{Held}
 use Rattle.machine.specs.declared.state.Machine.{Machine}
 use Rattle.machine.proofs.Stays.{lent_over, length_part}
 use Rattle.live.specs.Fits.{Fitted}
-use Rattle.live.proofs.Lent.{few_cells}
-use Rattle.live.proofs.Viewing.{after_cells_next}
+use Rattle.turns.proofs.Lent.{few_cells}
+use Rattle.turns.proofs.Viewing.{after_cells_next}
 
 -- what was lent to the terminal for its new size is in the memory
 pub fit_done : (t : Terminal) (m old new : List ℕ) (s : Size) (n : ℕ) (r : Bool) (t₁ : Terminal) (new₁ : List ℕ) → length m ≡ 238304 → n ≡ s.high * s.wide

@@ -16,10 +16,11 @@ use Rattle.engine.proofs.Start.{detaching_start}
 use Rattle.engine.proofs.Maps.{placed}
 use Rattle.machine.specs.States.{glass_of, view_of, state_of}
 use Rattle.machine.specs.declared.state.Machine.{Machine}
-use Rattle.live.specs.Does.{Does}
+use Rattle.turns.specs.Does.{Does}
 use Rattle.live.specs.Means.{Goes}
-use Rattle.live.specs.Turned.{then_goes, turned, AtFirst}
-use Rattle.live.proofs.Viewing.{viewed_so, after_cells}
+use Rattle.turns.specs.Turned.{then_goes}
+use Rattle.live.specs.Turned.{turned, AtFirst}
+use Rattle.turns.proofs.Viewing.{viewed_so, after_cells}
 
 -- the machine's step where it does something, and where it does nothing
 own_takes : (m : List ℕ) (t : ToldIt) → memory_fits m ≡ true → proper_told t ≡ true → detaching_machine.step m t ≡ kept encode m (taking detaching (decode m) t)

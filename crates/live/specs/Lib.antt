@@ -1,5 +1,3 @@
-pub mod Sent
-pub mod Does
 pub mod Turned
 pub mod Fits
 pub mod Answered

@@ -1,42 +1,26 @@
 -- What the machine does when one thing comes.
-use Rattle.std.specs.Prelude.{◌≡◌, ℕ, Bool, false, List, [], ◌∷◌, Some, None}
+use Rattle.std.specs.Prelude.{◌≡◌, ℕ, false, List, [], ◌∷◌, Some, None}
 use Rattle.meaning.specs.Screen.{Term}
-use Rattle.meaning.specs.Panes.{Glass, Event, Turn, turn, with_prefix, with_panes, at_first}
+use Rattle.meaning.specs.Panes.{Glass, Event, with_panes, at_first}
 use Rattle.meaning.specs.Promise.{detaching}
 use Rattle.windows.specs.Parts.{left}
 use Rattle.terminal.specs.declared.state.Terminal.{Terminal}
-use Rattle.engine.specs.State.{View, Out, said_or_going, view_at}
+use Rattle.engine.specs.State.{Out}
 use Rattle.grid.specs.declared.size.Size.{Size}
 use Rattle.layout.specs.Window.{one_pane}
 use Rattle.render.specs.Pens.{fresh_pen}
 use Rattle.machine.specs.States.{terminal_in, glass_of, view_of}
 use Rattle.machine.specs.declared.state.Held.{Held}
 use Rattle.machine.specs.declared.state.Machine.{Machine}
+use Rattle.turns.specs.Turned.{turned_by}
 
--- what is said after a turn comes first, else it goes on
-abbrev pub then_goes : View → Turn → Out
-then_goes v t = said_or_going t.next v t.says
-
+-- with d known
 abbrev pub turned : Machine → List ℕ → Event → Out
-turned x m ev = then_goes (view_at ev (view_of x m)) (turn detaching (glass_of x m) ev)
-
--- the machine x with the prefix key come, or not
-pub record Prefixed (x : Machine) (p : Bool) (y : Machine) : Type 0 where
-  pub glass : (m : List ℕ) → glass_of y m ≡ with_prefix (glass_of x m) p
-  pub view : (m : List ℕ) → view_of y m ≡ view_of x m
+turned = turned_by detaching
 
 -- the machine x at which nobody looks any more
 pub record Left (x : Machine) (y : Machine) : Type 0 where
   pub glass : (m : List ℕ) → glass_of y m ≡ left (glass_of x m)
-  pub view : (m : List ℕ) → view_of y m ≡ view_of x m
-
--- a glass whose last pane has gone
-abbrev pub emptied : Glass → Glass
-emptied g = record { wide = g.wide; high = g.high; attached = g.attached; windows = []; at = 0; panes = []; next = g.next; prefix = g.prefix }
-
--- the machine x without its pane
-pub record Emptied (x : Machine) (y : Machine) : Type 0 where
-  pub glass : (m : List ℕ) → glass_of y m ≡ emptied (glass_of x m)
   pub view : (m : List ℕ) → view_of y m ≡ view_of x m
 
 -- the machine of a viewer with a fresh screen of this size, who looks at the pane p

@@ -2,7 +2,7 @@
 ghost use Rattle.std.specs.Prelude.{◌≡◌, ◌≤◌, length, Some};
 ghost use Rattle.meaning.specs.Panes.{from};
 ghost use Rattle.live.specs.Answered.{Answered};
-ghost use Rattle.live.specs.Does.{Does};
+ghost use Rattle.turns.specs.Does.{Does};
 ghost use Rattle.live.specs.Turned.{turned, Retermed};
 
 use crate::show::advance;

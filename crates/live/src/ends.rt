@@ -1,49 +1,18 @@
-// A program's end: its pane goes, and with the last one everything is over.
+// A program's end, which crate turns has: its pane goes, and with the last one everything is over.
 ghost use Rattle.std.specs.Prelude.{◌≡◌, ◌≤◌, length};
 ghost use Rattle.meaning.specs.Panes.{gone};
-ghost use Rattle.live.specs.Does.{Does};
-ghost use Rattle.live.specs.Turned.{turned, Emptied};
+ghost use Rattle.turns.specs.Does.{Does};
+ghost use Rattle.live.specs.Turned.{turned};
 
-use crate::show::advance;
 use machine::state::Machine;
-use machine::store;
 use meaning::Told;
+use turns::ends::end;
 
-fn without_pane(x: Machine) -> Machine
-    ensures { Emptied x result }
-{
-    let Machine {
-        size,
-        attached,
-        prefix,
-        next,
-        pane: _,
-        pen,
-    } = x;
-    Machine {
-        size,
-        attached,
-        prefix,
-        next,
-        pane: None,
-        pen,
-    }
-}
-
-// The end of a program that has no pane changes nothing.
+// Which keys are known makes no difference to it. Memory and row are as large as they have to be, so that it is not refused.
 pub(crate) fn take_end(memory: &mut [u64], x: Machine, id: u64, out: &mut [u8]) -> Told
     requires memory { length memory.old ≡ 238304 }
     requires out { 65536 ≤ length out.old }
     ensures { Does (turned x memory.old (gone id)) memory.old memory.new result out.old out.new }
 {
-    match x.pane {
-        Some(p) => {
-            if p.id == id {
-                store(memory, without_pane(x));
-                return Told::Over;
-            }
-            advance(memory, x, out)
-        }
-        None => advance(memory, x, out),
-    }
+    end(memory, x, id, out)
 }

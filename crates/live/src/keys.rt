@@ -1,58 +1,13 @@
-// A key: it goes to the pane with the focus, unless it is the prefix or comes after it.
-ghost use Rattle.std.specs.Prelude.{◌≡◌, ℕ, ◌^◌, ◌<◌, ◌≤◌, Bool, true, List, [], ◌∷◌, length};
-ghost use Rattle.meaning.specs.Panes.{send, key, window_at, current};
-ghost use Rattle.meaning.specs.Promise.{says};
-ghost use Rattle.meaning.specs.Entry.{SaysTold};
-ghost use Rattle.engine.specs.State.{out as out_of};
-ghost use Rattle.machine.specs.States.{glass_of, view_of, windows_of};
-ghost use Rattle.live.specs.Does.{Does};
-ghost use Rattle.live.specs.Turned.{turned, Prefixed, Left};
+// A key: as crate turns has it where none is known after the prefix, but at d after the prefix nobody looks any more.
+ghost use Rattle.std.specs.Prelude.{◌≡◌, ◌≤◌, ◌&&◌, length, ◌==◌};
+ghost use Rattle.meaning.specs.Panes.{key};
+ghost use Rattle.turns.specs.Does.{Does};
+ghost use Rattle.live.specs.Turned.{turned, Left};
 
-use crate::show::advance;
-use machine::state::{Held, Machine};
+use machine::state::Machine;
 use machine::store;
 use meaning::Told;
-
-// The number of the pane with the focus, 0 where there is none.
-fn focus(pane: Option<Held>) -> u64
-    ensures is { result ≡ (window_at (windows_of pane) 0).focus }
-    ensures small { result < 2 ^ 47 }
-{
-    match pane {
-        Some(p) => p.id,
-        None => 0,
-    }
-}
-
-fn send_key(out: &mut [u8], id: u64, c: u8) -> Told
-    requires small { id < 2 ^ 47 }
-    requires out { 65536 ≤ length out.old }
-    ensures { SaysTold (send id (c ∷ [])) result out.old out.new }
-{
-    out[0] = c;
-    Told::Send(65536 * id + 1)
-}
-
-fn with_prefix(x: Machine, prefix: bool) -> Machine
-    ensures { Prefixed x prefix result }
-{
-    let Machine {
-        size,
-        attached,
-        prefix: _,
-        next,
-        pane,
-        pen,
-    } = x;
-    Machine {
-        size,
-        attached,
-        prefix,
-        next,
-        pane,
-        pen,
-    }
-}
+use turns::keys::press;
 
 fn without_viewer(x: Machine) -> Machine
     ensures { Left x result }
@@ -75,50 +30,21 @@ fn without_viewer(x: Machine) -> Machine
     }
 }
 
-// The key is said to the pane with the focus.
-fn say_key(memory: &mut [u64], x: Machine, c: u8, out: &mut [u8]) -> Told
-    requires memory { length memory.old ≡ 238304 }
-    requires out { 65536 ≤ length out.old }
-    ensures { Does (out_of (glass_of x memory.old) (view_of x memory.old) (says (send (current (glass_of x memory.old)).focus (c ∷ []))))
-        memory.old memory.new result out.old out.new }
+// Is it d after the prefix, while somebody looks?
+fn leaves(x: Machine, c: u8) -> bool
+    ensures { result ≡ (x.attached && (x.prefix && (c == 100))) }
 {
-    store(memory, x);
-    send_key(out, focus(x.pane), c)
+    x.attached && x.prefix && c == b'd'
 }
 
-// After the prefix: byte 1 is the key itself, and at d nobody looks any more.
-fn after_prefix(memory: &mut [u64], x: Machine, c: u8, out: &mut [u8]) -> Told
-    requires memory { length memory.old ≡ 238304 }
-    requires out { 65536 ≤ length out.old }
-    requires looked { x.attached ≡ true }
-    requires prefix { x.prefix ≡ true }
-    ensures { Does (turned x memory.old (key c)) memory.old memory.new result out.old out.new }
-{
-    let y = with_prefix(x, false);
-    if c == 1 {
-        return say_key(memory, y, c, out);
-    }
-    if c == b'd' {
-        store(memory, without_viewer(x));
-        return Told::Leave;
-    }
-    advance(memory, y, out)
-}
-
-// Byte 1 is the prefix. While nobody looks a key does nothing.
 pub(crate) fn take_key(memory: &mut [u64], x: Machine, c: u8, out: &mut [u8]) -> Told
     requires memory { length memory.old ≡ 238304 }
     requires out { 65536 ≤ length out.old }
     ensures { Does (turned x memory.old (key c)) memory.old memory.new result out.old out.new }
 {
-    if !x.attached {
-        return advance(memory, x, out);
+    if leaves(x, c) {
+        store(memory, without_viewer(x));
+        return Told::Leave;
     }
-    if x.prefix {
-        return after_prefix(memory, x, c, out);
-    }
-    if c == 1 {
-        return advance(memory, with_prefix(x, true), out);
-    }
-    say_key(memory, x, c, out)
+    press(memory, x, c, out)
 }

@@ -1,155 +1,18 @@
-// Going on: cells that differ are sent to the viewer's screen, then the cursor is put right.
-ghost use Rattle.std.specs.Prelude.{◌≡◌, ℕ, ◌*◌, ◌≤◌, Bool, true, List, ◌++◌, length, take, Some};
-ghost use Rattle.meaning.specs.Picture.{picture, spot};
-ghost use Rattle.grid.specs.Cells.{cells_of};
-ghost use Rattle.layout.specs.Window.{one_pane};
-ghost use Rattle.machine.specs.States.{glass_of, terminal_in, view_of};
-ghost use Rattle.live.specs.Does.{Does, closing_out};
-ghost use Rattle.render.specs.Draw.{drawn};
-ghost use Rattle.engine.specs.Areas.{part};
+// Going on, which crate turns has: cells that differ are sent to the viewer's screen, then the cursor is put right.
+ghost use Rattle.std.specs.Prelude.{◌≡◌, ◌≤◌, length};
+ghost use Rattle.machine.specs.States.{glass_of, view_of};
 ghost use Rattle.engine.specs.State.{going};
-ghost use Rattle.meaning.specs.Screen.{Cell};
-ghost use Rattle.terminal.specs.Terms.{term_of};
-ghost use Rattle.live.specs.Sent.{Closed, Sent, closing_at};
+ghost use Rattle.turns.specs.Does.{Does};
 
-use grid::size::Size;
-use layout::{cursor_of, draw_pane};
-use machine::state::{Held, Machine};
-use machine::store;
+use machine::state::Machine;
 use meaning::Told;
-use render::draw::draw;
-use render::finish::finish;
-use render::pen::Pen;
-use terminal::state::Terminal;
+use turns::show::go_on;
 
-// The picture of one pane, at the beginning of a row that is as long as the largest.
-fn draw_picture(memory: &[u64], size: Size, pane: &Terminal, row: &mut [u64])
-    requires memory { length memory.now ≡ 238304 }
-    requires row { length row.old ≡ 12000 }
-    ensures { (i n : ℕ) (p : Bool) → take (size.high * size.wide) row.new ≡ cells_of (picture (one_pane size.wide size.high i (terminal_in pane.now memory.now) n p)) }
-{
-    let n = size.cells();
-    let k = pane.size.cells();
-    draw_pane(&mut row[0..n], size, &memory[38304..38304 + k], pane.size);
-}
-
-// One go of drawing, with room for 4,096 bytes.
-fn send_cells(memory: &mut [u64], row: &[u64], size: Size, pen: &mut Pen, out: &mut [u8]) -> usize
-    requires memory { length memory.old ≡ 238304 }
-    requires row { length row.now ≡ 12000 }
-    requires out { 65536 ≤ length out.old }
-    ensures { Sent (drawn size.wide size.high (take (size.high * size.wide) row.now) 4096 (part memory.old 2304 (size.high * size.wide)) pen.old)
-        memory.old memory.new pen.new result out.old out.new }
-{
-    let n = size.cells();
-    draw(
-        &mut memory[2304..2304 + n],
-        &row[0..n],
-        size,
-        pen,
-        &mut out[0..4096],
-    )
-}
-
-// The closing go.
-fn send_cursor(size: Size, pane: &Terminal, pen: &mut Pen, out: &mut [u8]) -> usize
-    requires { 65536 ≤ length out.old }
-    ensures { (rs : List (List Cell)) (a : List ℕ) (i n : ℕ) (p : Bool) →
-        Closed (closing_at size.wide size.high (spot (one_pane size.wide size.high i (term_of pane.now rs a) n p)) pen.old)
-        pen.new result out.old out.new }
-{
-    let c = cursor_of(size, pane);
-    finish(pen, size, c.row, c.col, c.visible, &mut out[0..4096])
-}
-
-// No cell differs: the cursor is put right, or there is nothing to do.
-fn close(memory: &mut [u64], x: Machine, p: Held, out: &mut [u8]) -> Told
-    requires memory { length memory.old ≡ 238304 }
-    requires out { 65536 ≤ length out.old }
-    requires pane { x.pane ≡ Some p }
-    requires looked { x.attached ≡ true }
-    ensures { Does (closing_out (glass_of x memory.old) (view_of x memory.old)) memory.old memory.new result out.old out.new }
-{
-    let Machine {
-        size,
-        attached,
-        prefix,
-        next,
-        pane,
-        mut pen,
-    } = x;
-    let k = send_cursor(size, &p.terminal, &mut pen, out);
-    if k > 0 {
-        store(
-            memory,
-            Machine {
-                size,
-                attached,
-                prefix,
-                next,
-                pane,
-                pen,
-            },
-        );
-        return Told::Write(k as u64);
-    }
-    store(memory, x);
-    Told::Wait
-}
-
-// Somebody looks at the pane: one go of drawing if cells differ, else the closing go.
-fn show(memory: &mut [u64], x: Machine, p: Held, out: &mut [u8]) -> Told
-    requires memory { length memory.old ≡ 238304 }
-    requires out { 65536 ≤ length out.old }
-    requires pane { x.pane ≡ Some p }
-    requires looked { x.attached ≡ true }
-    ensures { Does (going (glass_of x memory.old) (view_of x memory.old)) memory.old memory.new result out.old out.new }
-{
-    let mut row = [0u64; 12000];
-    draw_picture(memory, x.size, &p.terminal, &mut row);
-    let Machine {
-        size,
-        attached,
-        prefix,
-        next,
-        pane,
-        mut pen,
-    } = x;
-    let n = send_cells(memory, &row, size, &mut pen, out);
-    if n > 0 {
-        store(
-            memory,
-            Machine {
-                size,
-                attached,
-                prefix,
-                next,
-                pane,
-                pen,
-            },
-        );
-        return Told::Write(n as u64);
-    }
-    close(memory, x, p, out)
-}
-
-// Nothing is done where nobody looks or there is no pane.
+// Memory and row are as large as they have to be, so that it is not refused.
 pub(crate) fn advance(memory: &mut [u64], x: Machine, out: &mut [u8]) -> Told
     requires memory { length memory.old ≡ 238304 }
     requires out { 65536 ≤ length out.old }
     ensures { Does (going (glass_of x memory.old) (view_of x memory.old)) memory.old memory.new result out.old out.new }
 {
-    match x.pane {
-        Some(p) => {
-            if x.attached {
-                return show(memory, x, p, out);
-            }
-            store(memory, x);
-            Told::Wait
-        }
-        None => {
-            store(memory, x);
-            Told::Wait
-        }
-    }
+    go_on(memory, x, out)
 }

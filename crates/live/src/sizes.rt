@@ -5,7 +5,7 @@ ghost use Rattle.meaning.specs.Panes.{attach, rect, pane_wide, pane_high, as_lar
 ghost use Rattle.grid.specs.Cells.{blank_number};
 ghost use Rattle.engine.specs.Areas.{over};
 ghost use Rattle.machine.specs.States.{terminal_in};
-ghost use Rattle.live.specs.Does.{Does};
+ghost use Rattle.turns.specs.Does.{Does};
 ghost use Rattle.live.specs.Turned.{turned, Looked};
 ghost use Rattle.live.specs.Fits.{Fitted};
 

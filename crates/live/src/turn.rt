@@ -6,7 +6,7 @@ ghost use Rattle.meaning.specs.Entry.{told_of};
 ghost use Rattle.engine.specs.State.{out as out_of, fresh_view};
 ghost use Rattle.machine.specs.States.{Loads};
 ghost use Rattle.machine.specs.declared.state.Loaded.TheVariants.{First, Is};
-ghost use Rattle.live.specs.Does.{Does};
+ghost use Rattle.turns.specs.Does.{Does};
 ghost use Rattle.live.specs.Means.{Goes};
 ghost use Rattle.live.specs.Turned.{AtFirst};
 

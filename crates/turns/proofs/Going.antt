@@ -15,7 +15,7 @@ use Rattle.render.specs.declared.pen.Pen.{Pen}
 use Rattle.engine.specs.State.{View, Out, state, out, drawing, closing, after_drawing, looks, going}
 use Rattle.engine.specs.Memory.{memory_size, encode}
 use Rattle.engine.proofs.Maps.{placed}
-use Rattle.machine.specs.States.{terminal_in, glass_of, view_of, state_of, Stored}
+use Rattle.machine.specs.States.{terminal_in, glass_of, with_next, view_of, state_of, Stored, StoredWithNext}
 use Rattle.machine.specs.declared.state.Held.{Held}
 use Rattle.machine.specs.declared.state.Machine.{Machine}
 use Rattle.turns.specs.Sent.{Closed, closing_at}
@@ -75,6 +75,10 @@ close_is x p m ys ys₁ pen k e a f =
 pub stored_done : (x : Machine) (m m₁ : List ℕ) (r : Bool) → Stored x m r m₁ → length m ≡ 238304 → m₁ ≡ encode m (state (glass_of x m) (view_of x m))
 unfolding state_of
 stored_done x m m₁ r s l = s.done (s.told ∙ eq-eqb (length m) memory_size (l ∙ sym placed.size))
+
+-- and with n as the number that the next pane gets
+pub stored_next_done : (x : Machine) (n : ℕ) (m m₁ : List ℕ) (r : Bool) → StoredWithNext x n m r m₁ → length m ≡ 238304 → m₁ ≡ encode m (state (with_next (glass_of x m) n) (view_of x m))
+stored_next_done x n m m₁ r s l = s.done (s.told ∙ eq-eqb (length m) memory_size (l ∙ sym placed.size))
 
 -- nothing to do
 pub rest_does : (x : Machine) (m m₁ ys : List ℕ) → looks (glass_of x m) ≡ false → m₁ ≡ encode m (state (glass_of x m) (view_of x m)) → Does (going (glass_of x m) (view_of x m)) m m₁ Wait ys ys

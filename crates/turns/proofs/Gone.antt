@@ -1,8 +1,7 @@
 -- A program's end, case by case.
-use Rattle.std.proofs.Common.{◌≡◌, ℕ, false, eqb, List, [], ◌∷◌, Some, None, sym, refl, ap, ◌∙◌, subst}
+use Rattle.std.proofs.Common.{◌≡◌, ℕ, Bool, false, eqb, List, [], ◌∷◌, Some, None, sym, refl, ap, ◌∙◌, subst}
 use Rattle.std.proofs.lemmas.Bool.{eq-eqb}
 use Rattle.meaning.specs.Panes.{Glass, gone, over, turn, turn_of, settled, fit_places, places, without, gone_before, ids}
-use Rattle.meaning.specs.Promise.{core}
 use Rattle.meaning.specs.Entry.{ActTold, SaysTold}
 use Rattle.meaning.specs.declared.answer.Told.{Told}
 use Rattle.meaning.specs.declared.answer.Told.TheVariants.{Over}
@@ -12,28 +11,28 @@ use Rattle.machine.specs.States.{glass_of, view_of}
 use Rattle.machine.specs.declared.state.Held.{Held}
 use Rattle.machine.specs.declared.state.Machine.{Machine}
 use Rattle.turns.specs.Does.{Does}
-use Rattle.turns.specs.Turned.{then_goes, turned, emptied, Emptied}
+use Rattle.turns.specs.Turned.{then_goes, turned_by, emptied, Emptied}
 
-pub gone_last : (x : Machine) (p : Held) (m : List ℕ) → x.pane ≡ Some p → turn core (glass_of x m) (gone p.id) ≡ turn_of (emptied (glass_of x m)) (over ∷ [])
+pub gone_last : (known : ℕ → Bool) (x : Machine) (p : Held) (m : List ℕ) → x.pane ≡ Some p → turn known (glass_of x m) (gone p.id) ≡ turn_of (emptied (glass_of x m)) (over ∷ [])
 unfolding turn settled fit_places places without gone_before ids
-gone_last x p m e = rw e (simp (eq-eqb p.id p.id refl))
+gone_last known x p m e = rw e (simp (eq-eqb p.id p.id refl))
 
-pub gone_other : (x : Machine) (p : Held) (m : List ℕ) (i : ℕ) → x.pane ≡ Some p → eqb p.id i ≡ false → turn core (glass_of x m) (gone i) ≡ turn_of (glass_of x m) []
+pub gone_other : (known : ℕ → Bool) (x : Machine) (p : Held) (m : List ℕ) (i : ℕ) → x.pane ≡ Some p → eqb p.id i ≡ false → turn known (glass_of x m) (gone i) ≡ turn_of (glass_of x m) []
 unfolding turn
-gone_other x p m i e n = rw e (simp n)
+gone_other known x p m i e n = rw e (simp n)
 
-pub gone_nothing : (x : Machine) (m : List ℕ) (i : ℕ) → x.pane ≡ None → turn core (glass_of x m) (gone i) ≡ turn_of (glass_of x m) []
+pub gone_nothing : (known : ℕ → Bool) (x : Machine) (m : List ℕ) (i : ℕ) → x.pane ≡ None → turn known (glass_of x m) (gone i) ≡ turn_of (glass_of x m) []
 unfolding turn
-gone_nothing x m i e = rw e
+gone_nothing known x m i e = rw e
 
-pub end_goes : (x : Machine) (m m₁ ys ys₁ : List ℕ) (i : ℕ) (r : Told) → turn core (glass_of x m) (gone i) ≡ turn_of (glass_of x m) []
-    → Does (going (glass_of x m) (view_of x m)) m m₁ r ys ys₁ → Does (turned x m (gone i)) m m₁ r ys ys₁
+pub end_goes : (known : ℕ → Bool) (x : Machine) (m m₁ ys ys₁ : List ℕ) (i : ℕ) (r : Told) → turn known (glass_of x m) (gone i) ≡ turn_of (glass_of x m) []
+    → Does (going (glass_of x m) (view_of x m)) m m₁ r ys ys₁ → Does (turned_by known x m (gone i)) m m₁ r ys ys₁
 unfolding said_or_going view_at
-end_goes x m m₁ ys ys₁ i r e d = subst (λ (o : Out). Does o m m₁ r ys ys₁) (ap (then_goes (view_of x m)) (sym e)) d
+end_goes known x m m₁ ys ys₁ i r e d = subst (λ (o : Out). Does o m m₁ r ys ys₁) (ap (then_goes (view_of x m)) (sym e)) d
 
-pub end_over : (x y : Machine) (m m₁ ys : List ℕ) (i : ℕ) → Emptied x y → turn core (glass_of x m) (gone i) ≡ turn_of (emptied (glass_of x m)) (over ∷ [])
-    → m₁ ≡ encode m (state (glass_of y m) (view_of y m)) → Does (turned x m (gone i)) m m₁ Over ys ys
+pub end_over : (known : ℕ → Bool) (x y : Machine) (m m₁ ys : List ℕ) (i : ℕ) → Emptied x y → turn known (glass_of x m) (gone i) ≡ turn_of (emptied (glass_of x m)) (over ∷ [])
+    → m₁ ≡ encode m (state (glass_of y m) (view_of y m)) → Does (turned_by known x m (gone i)) m m₁ Over ys ys
 unfolding said_or_going view_at ActTold SaysTold
-end_over x y m m₁ ys i q e h =
+end_over known x y m m₁ ys i q e h =
     subst (λ (o : Out). Does o m m₁ Over ys ys) (ap (then_goes (view_of x m)) (sym e))
     (record { memory = h ∙ ap (λ (g : Glass). encode m (state g (view_of y m))) (q.glass m) ∙ ap (λ (v : View). encode m (state (emptied (glass_of x m)) v)) (q.view m); act = (refl, refl) })

@@ -1,6 +1,6 @@
-mod Lent
-mod Viewing
-mod Going
-mod Drawing
-mod Prefixes
-mod Gone
+pub mod Lent
+pub mod Viewing
+pub mod Going
+pub mod Drawing
+pub mod Prefixes
+pub mod Gone

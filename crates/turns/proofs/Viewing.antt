@@ -12,7 +12,7 @@ use Rattle.engine.specs.Memory.{memory_size, screen_at, cells_at, encode}
 use Rattle.engine.proofs.Areas.{part_over, part_over_above}
 use Rattle.engine.proofs.Maps.{placed}
 use Rattle.engine.proofs.Rewrites.{encode_screen}
-use Rattle.machine.specs.States.{terminal_in, panes_of, glass_of, state_of}
+use Rattle.machine.specs.States.{terminal_in, panes_of, glass_of, with_next, view_of, state_of}
 use Rattle.machine.specs.declared.state.Held.{Held}
 use Rattle.machine.specs.declared.state.Machine.{Machine}
 use Rattle.turns.proofs.Lent.{few_cells}
@@ -26,7 +26,7 @@ panes_stay m vs (Some p) l h =
     let e : part (over m screen_at vs) cells_at n ≡ part m cells_at n = part_over_above m screen_at vs cells_at n (omega arith) (omega arith) in
     ap (λ (xs : List ℕ). record { id = p.id; term = term_of t (rows_of t.size.wide t.size.high xs) [] } ∷ []) e
 
-length_pane : (m : List ℕ) (o : Option Held) → length m ≡ memory_size → (q : Pane) (qs : List Pane) → panes_of o m ≡ q ∷ qs → length (cells_of q.term.rows) ≤ 12000
+pub length_pane : (m : List ℕ) (o : Option Held) → length m ≡ memory_size → (q : Pane) (qs : List Pane) → panes_of o m ≡ q ∷ qs → length (cells_of q.term.rows) ≤ 12000
 length_pane m None l q qs e = absurd (let z : ◌≡◌ {A = ℕ} 0 1 = cc in omega arith)
 length_pane m (Some p) l q qs e =
     let k = placed in
@@ -46,18 +46,27 @@ length_pane m (Some p) l q qs e =
 abbrev pub viewed_so : Machine → List ℕ → List ℕ → Pen → State
 viewed_so x m vs pen = state (glass_of x m) (record { wide = x.size.wide; high = x.size.high; cells = vs; pen = pen })
 
-state_after : (m vs : List ℕ) (x : Machine) → length m ≡ memory_size → length vs ≡ x.size.high * x.size.wide → state_of x (over m screen_at vs) ≡ viewed_so x m vs x.pen
-unfolding state_of
-state_after m vs x l e =
+-- and with n as the number that the next pane gets
+abbrev pub viewed_next : Machine → ℕ → List ℕ → List ℕ → Pen → State
+viewed_next x n m vs pen = state (with_next (glass_of x m) n) (record { wide = x.size.wide; high = x.size.high; cells = vs; pen = pen })
+
+state_after : (m vs : List ℕ) (x : Machine) (n : ℕ) → length m ≡ memory_size → length vs ≡ x.size.high * x.size.wide
+    → state (with_next (glass_of x (over m screen_at vs)) n) (view_of x (over m screen_at vs)) ≡ viewed_next x n m vs x.pen
+state_after m vs x n l e =
     let k = placed in
     let f = few_cells x.size in
     let ps = panes_stay m vs x.pane l (omega arith) in
-    let c : part (over m screen_at vs) screen_at (x.size.high * x.size.wide) ≡ vs = ap (λ (n : ℕ). part (over m screen_at vs) screen_at n) (sym e) ∙ part_over m screen_at vs (omega arith) in
+    let c : part (over m screen_at vs) screen_at (x.size.high * x.size.wide) ≡ vs = ap (λ (j : ℕ). part (over m screen_at vs) screen_at j) (sym e) ∙ part_over m screen_at vs (omega arith) in
     rw (ps, c)
 
 -- stored after the cells were changed, the machine is as the definition puts it into the memory as it was
+pub after_cells_next : (m vs : List ℕ) (x : Machine) (n : ℕ) → length m ≡ memory_size → length vs ≡ x.size.high * x.size.wide
+    → encode (over m screen_at vs) (state (with_next (glass_of x (over m screen_at vs)) n) (view_of x (over m screen_at vs))) ≡ encode m (viewed_next x n m vs x.pen)
+after_cells_next m vs x n l e =
+    ap (encode (over m screen_at vs)) (state_after m vs x n l e)
+    ∙ encode_screen m vs (viewed_next x n m vs x.pen) l (let f = few_cells x.size in omega arith) (omega arith) (length_pane m x.pane l)
+
 pub after_cells : (m vs : List ℕ) (x : Machine) → length m ≡ memory_size → length vs ≡ x.size.high * x.size.wide
     → encode (over m screen_at vs) (state_of x (over m screen_at vs)) ≡ encode m (viewed_so x m vs x.pen)
-after_cells m vs x l e =
-    ap (encode (over m screen_at vs)) (state_after m vs x l e)
-    ∙ encode_screen m vs (viewed_so x m vs x.pen) l (let f = few_cells x.size in omega arith) (omega arith) (length_pane m x.pane l)
+unfolding state_of
+after_cells m vs x l e = after_cells_next m vs x x.next l e

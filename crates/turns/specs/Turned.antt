@@ -13,6 +13,10 @@ then_goes v t = said_or_going t.next v t.says
 abbrev pub turned : Machine → List ℕ → Event → Out
 turned x m ev = then_goes (view_at ev (view_of x m)) (turn core (glass_of x m) ev)
 
+-- likewise where these keys after the prefix are known
+abbrev pub turned_by : (ℕ → Bool) → Machine → List ℕ → Event → Out
+turned_by known x m ev = then_goes (view_at ev (view_of x m)) (turn known (glass_of x m) ev)
+
 -- the machine x with the prefix key come, or not
 pub record Prefixed (x : Machine) (p : Bool) (y : Machine) : Type 0 where
   pub glass : (m : List ℕ) → glass_of y m ≡ with_prefix (glass_of x m) p

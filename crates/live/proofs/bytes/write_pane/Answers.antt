@@ -1,5 +1,5 @@
 use Rattle.std.proofs.Common.{◌∙◌, arith}
-use Rattle.live.proofs.Going.{stored_done}
+use Rattle.turns.proofs.Going.{stored_done}
 use Rattle.live.proofs.Heard.{bytes_answered, bytes_go}
 use Rattle.live.proofs.bytes.write_pane.Goals as goal
 

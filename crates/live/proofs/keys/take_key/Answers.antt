@@ -1,24 +1,15 @@
-use Rattle.std.proofs.lemmas.Bool.{ne_eqb, not-true, not-false}
+use Rattle.std.proofs.Common.{sym, ◌∙◌}
 use Rattle.machine.specs.States.{glass_of}
-use Rattle.meaning.specs.Promise.{detaching}
-use Rattle.engine.proofs.Keyed.{on_unseen, on_prefix, on_plain}
-use Rattle.live.proofs.Prefixes.{key_goes, key_says, as_it_is}
+use Rattle.turns.proofs.Going.{stored_done}
+use Rattle.live.proofs.Leaving.{key_leaves, leaves_does, stays_does}
 use Rattle.live.proofs.keys.take_key.Goals as goal
 
-pub returns-then-not-x : goal.returns-then-not-x
-returns-then-not-x c =
+pub returns-then-leaves : goal.returns-then-leaves
+returns-then-leaves c =
     let x = c.args.x in
     let m = c.args.memory.now in
-    key_goes x x _ m _ _ _ c.args.c _ (as_it_is x) (on_unseen detaching (glass_of x m) c.args.c (not-true _ c.if-not-x.true)) c.advance.ensures
-
-pub returns-then-c-eq1 : goal.returns-then-c-eq1
-returns-then-c-eq1 c =
-    let x = c.args.x in
-    let m = c.args.memory.now in
-    key_goes x _ _ m _ _ _ c.args.c _ c.with_prefix.ensures (on_prefix detaching (glass_of x m) c.args.c (not-false _ c.if-not-x.false) c.if-x.false c.if-c-eq1.true) c.advance-then-c-eq1.ensures
+    leaves_does x _ m _ _ c.args.c c.without_viewer.ensures (key_leaves (glass_of x m) c.args.c (sym c.leaves.ensures ∙ c.if-leaves.true)) (stored_done _ m _ _ c.store.ensures c.requires.memory)
 
 pub returns : goal.returns
 returns c =
-    let x = c.args.x in
-    let m = c.args.memory.now in
-    key_says x x _ m _ _ _ c.args.c _ (as_it_is x) (on_plain detaching (glass_of x m) c.args.c (not-false _ c.if-not-x.false) c.if-x.false (ne_eqb _ _ c.if-c-eq1.false)) c.say_key.ensures
+    stays_does c.args.x c.args.memory.now _ _ _ c.args.c _ (sym c.leaves.ensures ∙ c.if-leaves.false) (c.press.ensures.taken c.requires.memory c.requires.out)

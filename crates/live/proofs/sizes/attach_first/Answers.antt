@@ -3,7 +3,7 @@ use Rattle.std.proofs.lemmas.Bool.{both_ways}
 use Rattle.meaning.specs.Screen.{fresh}
 use Rattle.grid.specs.declared.size.Size.{Size}
 use Rattle.machine.proofs.Stays.{lent_over}
-use Rattle.live.proofs.Going.{stored_next_done}
+use Rattle.turns.proofs.Going.{stored_next_done}
 use Rattle.live.proofs.Sized.{lent_long, lent_on}
 use Rattle.live.proofs.Looking.{first_does}
 use Rattle.live.proofs.sizes.attach_first.Goals as goal

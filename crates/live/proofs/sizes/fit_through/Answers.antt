@@ -1,5 +1,5 @@
 use Rattle.std.proofs.Common.{◌∙◌}
-use Rattle.live.proofs.Lent.{few_cells}
+use Rattle.turns.proofs.Lent.{few_cells}
 use Rattle.live.proofs.Sized.{fit_done, copied_cells, lent_long}
 use Rattle.live.proofs.sizes.fit_through.Goals as goal
 

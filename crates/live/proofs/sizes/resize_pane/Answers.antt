@@ -4,7 +4,7 @@ use Rattle.terminal.specs.Terms.{term_on}
 use Rattle.engine.specs.Areas.{part}
 use Rattle.engine.proofs.Maps.{placed}
 use Rattle.machine.specs.States.{terminal_in}
-use Rattle.live.proofs.Going.{stored_done}
+use Rattle.turns.proofs.Going.{stored_done}
 use Rattle.live.proofs.Looking.{other_does}
 use Rattle.live.proofs.sizes.resize_pane.Goals as goal
 

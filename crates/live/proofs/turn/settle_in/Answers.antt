@@ -1,5 +1,5 @@
 use Rattle.std.proofs.Common.{arith}
-use Rattle.live.proofs.Going.{stored_done}
+use Rattle.turns.proofs.Going.{stored_done}
 use Rattle.live.proofs.Stepping.{settles_in}
 use Rattle.live.proofs.turn.settle_in.Goals as goal
 

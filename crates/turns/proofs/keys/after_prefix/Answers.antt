@@ -9,9 +9,9 @@ use Rattle.turns.proofs.keys.after_prefix.Goals as goal
 pub returns-then-c-eq1 : goal.returns-then-c-eq1
 returns-then-c-eq1 c =
     let m = c.args.memory.now in
-    key_says c.args.x _ _ m _ _ _ c.args.c _ c.with_prefix-y.ensures (on_again core (glass_of c.args.x m) c.args.c c.requires.looked c.requires.prefix c.if-c-eq1.true) c.say_key.ensures
+    key_says core c.args.x _ _ m _ _ _ c.args.c _ c.with_prefix-y.ensures (on_again core (glass_of c.args.x m) c.args.c c.requires.looked c.requires.prefix c.if-c-eq1.true) c.say_key.ensures
 
 pub returns : goal.returns
 returns c =
     let m = c.args.memory.now in
-    key_goes c.args.x _ _ m _ _ _ c.args.c _ c.with_prefix-y.ensures (on_other core (glass_of c.args.x m) c.args.c c.requires.looked c.requires.prefix (ne_eqb _ _ c.if-c-eq1.false) refl) c.advance.ensures
+    key_goes core c.args.x _ _ m _ _ _ c.args.c _ c.with_prefix-y.ensures (on_other core (glass_of c.args.x m) c.args.c c.requires.looked c.requires.prefix (ne_eqb _ _ c.if-c-eq1.false) refl) c.advance.ensures

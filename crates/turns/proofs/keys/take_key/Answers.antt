@@ -9,16 +9,16 @@ pub returns-then-not-x : goal.returns-then-not-x
 returns-then-not-x c =
     let x = c.args.x in
     let m = c.args.memory.now in
-    key_goes x x _ m _ _ _ c.args.c _ (as_it_is x) (on_unseen core (glass_of x m) c.args.c (not-true _ c.if-not-x.true)) c.advance.ensures
+    key_goes core x x _ m _ _ _ c.args.c _ (as_it_is x) (on_unseen core (glass_of x m) c.args.c (not-true _ c.if-not-x.true)) c.advance.ensures
 
 pub returns-then-c-eq1 : goal.returns-then-c-eq1
 returns-then-c-eq1 c =
     let x = c.args.x in
     let m = c.args.memory.now in
-    key_goes x _ _ m _ _ _ c.args.c _ c.with_prefix.ensures (on_prefix core (glass_of x m) c.args.c (not-false _ c.if-not-x.false) c.if-x.false c.if-c-eq1.true) c.advance-then-c-eq1.ensures
+    key_goes core x _ _ m _ _ _ c.args.c _ c.with_prefix.ensures (on_prefix core (glass_of x m) c.args.c (not-false _ c.if-not-x.false) c.if-x.false c.if-c-eq1.true) c.advance-then-c-eq1.ensures
 
 pub returns : goal.returns
 returns c =
     let x = c.args.x in
     let m = c.args.memory.now in
-    key_says x x _ m _ _ _ c.args.c _ (as_it_is x) (on_plain core (glass_of x m) c.args.c (not-false _ c.if-not-x.false) c.if-x.false (ne_eqb _ _ c.if-c-eq1.false)) c.say_key.ensures
+    key_says core x x _ m _ _ _ c.args.c _ (as_it_is x) (on_plain core (glass_of x m) c.args.c (not-false _ c.if-not-x.false) c.if-x.false (ne_eqb _ _ c.if-c-eq1.false)) c.say_key.ensures
