@@ -1,7 +1,8 @@
 -- Bytes added one after the other.
-use Rattle.std.proofs.Common.{◌≡◌, ℕ, ◌+◌, ◌<◌, List, [], ◌∷◌, ◌++◌, length, take, drop, set, sym, refl, ap, ◌∙◌, append_assoc, append-nil, arith, length-append}
+use Rattle.std.proofs.Common.{◌≡◌, ℕ, ◌+◌, ◌<◌, ◌≤◌, List, [], ◌∷◌, ◌++◌, length, take, drop, set, sym, refl, ap, ◌∙◌, append_assoc, append-nil, arith, length-append}
 use Rattle.std.proofs.lemmas.List.{take_more_set, drop-set-lt, drop-drop}
-use Rattle.output.specs.Added.{Added}
+use Rattle.output.specs.Added.{Added, Adds}
+use Rattle.output.specs.declared.Buffer.{Buffer}
 
 pub one_added : (n : ℕ) (old : List ℕ) (b : ℕ) → n < length old → Added n old (n + 1) (set old n b) (b ∷ [])
 one_added n old b h = record { said = take_more_set old n b h; kept = drop-set-lt (n + 1) old n b (omega arith); far = refl }
@@ -22,3 +23,11 @@ then {n} {r} {s} {old} {mid} {new} {bs} {cs} a b =
       kept = kept_on old b a.kept;
       far = let e = b.far in let f = a.far in let l = length-append bs cs in omega arith;
     }
+
+-- bytes, and then more, come into one buffer
+pub both : {x y z : Buffer} {bs cs : List ℕ} → Adds x y bs → Adds y z cs → Adds x z (bs ++ cs)
+both p q = record { added = then p.added q.added; long = q.long ∙ p.long; same_row = q.same_row ∙ p.same_row }
+
+-- as much room as is left behind what has come
+pub room_left : {x y : Buffer} {bs : List ℕ} (n : ℕ) → Adds x y bs → x.len + length bs + n ≤ length x.bytes.now → y.len + n ≤ length y.bytes.now
+room_left n p h = let e = p.added.far in let l = p.long in omega arith

@@ -1,41 +1,48 @@
-// Bytes added at the end of what a lent row holds so far: its first n bytes count, and each function answers how many do then.
-// Where there is no room nothing changes, and n is the answer.
+// Bytes added at the end of what a lent row holds so far. Where there is no room nothing changes.
 #![tactic(auto)]
 
 ghost use Rattle.std.specs.Prelude.{◌≡◌, ◌+◌, ◌<◌, ◌≤◌, [], ◌∷◌, length};
 ghost use Rattle.meaning.specs.Bytes.{in_digits};
-ghost use Rattle.output.specs.Added.{Added, Unchanged};
+ghost use Rattle.output.specs.Added.{Adds, Unchanged};
 
-// One byte.
-pub fn push(out: &mut [u8], n: usize, b: u8) -> usize
-    ensures added { n < length out.old → Added n out.old result out.new (b ∷ []) }
-    ensures full { length out.old ≤ n → Unchanged n out.old result out.new }
-{
-    if n >= out.len() {
-        return n;
-    }
-    out[n] = b;
-    n + 1
+// A lent row of bytes, of which the first `len` count.
+#[derive(Drop)]
+pub struct Buffer<'a> {
+    pub bytes: &'a mut [u8],
+    pub len: usize,
 }
 
-// A number below 1,000 in decimal, where there is room for three digits.
-pub fn number(out: &mut [u8], n: usize, k: usize) -> usize
-    ensures added { n + 3 ≤ length out.old → k < 1000 → Added n out.old result out.new (in_digits k) }
-    ensures most { result ≤ n + 3 }
-    ensures full { length out.old < n + 3 → Unchanged n out.old result out.new }
-    ensures large { 1000 ≤ k → Unchanged n out.old result out.new }
-{
-    if out.len() < 3 || n > out.len() - 3 || k >= 1000 {
-        return n;
+impl Buffer<'_> {
+    // One byte.
+    pub fn push(&mut self, b: u8)
+        ensures added { self.old.len < length self.old.bytes.now → Adds self.old self.new (b ∷ []) }
+        ensures full { length self.old.bytes.now ≤ self.old.len → Unchanged self.old self.new }
+    {
+        if self.len < self.bytes.len() {
+            self.bytes[self.len] = b;
+            self.len += 1;
+        }
     }
-    if k < 10 {
-        push(out, n, 48 + k as u8)
-    } else if k < 100 {
-        let a = push(out, n, 48 + (k / 10) as u8);
-        push(out, a, 48 + (k % 10) as u8)
-    } else {
-        let a = push(out, n, 48 + (k / 100) as u8);
-        let b = push(out, a, 48 + (k / 10 % 10) as u8);
-        push(out, b, 48 + (k % 10) as u8)
+
+    // A number below 1,000 in decimal, where there is room for three digits.
+    pub fn number(&mut self, k: usize)
+        ensures added { self.old.len + 3 ≤ length self.old.bytes.now → k < 1000 → Adds self.old self.new (in_digits k) }
+        ensures most { self.new.len ≤ self.old.len + 3 }
+        ensures full { length self.old.bytes.now < self.old.len + 3 → Unchanged self.old self.new }
+        ensures large { 1000 ≤ k → Unchanged self.old self.new }
+    {
+        if self.bytes.len() < 3 || self.len > self.bytes.len() - 3 || k >= 1000 {
+            return;
+        }
+        if k < 10 {
+            self.push(48 + k as u8);
+        } else if k < 100 {
+            self.push(48 + (k / 10) as u8);
+            self.push(48 + (k % 10) as u8);
+        } else {
+            self.push(48 + (k / 100) as u8);
+            self.push(48 + (k / 10 % 10) as u8);
+            self.push(48 + (k % 10) as u8);
+        }
     }
 }
