@@ -26,6 +26,10 @@ style_of r = record { marks = r.marks; fore = r.fore; back = r.back }
 abbrev pub cell_of : Glyph → Cell
 cell_of g = record { sign = g.sign; style = style_of g.rendition }
 
+-- a style alone, as a cell without a sign
+abbrev pub unsigned : Style → Cell
+unsigned s = record { sign = 0; style = s }
+
 -- a list cut into h pieces of w
 unfoldable pub pieces : {A : Type 0} → ℕ → ℕ → List A → List (List A)
 pieces w zero xs = []

@@ -18,6 +18,7 @@ pub fn resize(old: &[u64], old_size: Size, new: &mut [u64], new_size: Size, skip
     new.fill(BLANK);
     let wide = old_size.wide.min(new_size.wide);
     let high = old_size.high.saturating_sub(skip).min(new_size.high);
+    // By row number: of a slice lent in chunks (chunks_exact_mut) nothing is known once the loop over them has ended.
     for k in 0..high {
         let from = (skip + k) * old_size.wide;
         let to = k * new_size.wide;

@@ -1,7 +1,7 @@
 // How large a screen is: 1 to 200 columns, 1 to 60 rows.
 ghost use Rattle.std.specs.Prelude.{◌≡◌, ◌*◌, ◌<◌, ◌≤◌, true, false, ◌&&◌, MatchOption, nat_le, nat_lt};
 
-#[derive(Clone, Copy)]
+#[derive(Clone, Copy, PartialEq, Eq)]
 pub struct Size {
     pub wide: usize,
     pub high: usize,
