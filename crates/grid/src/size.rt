@@ -1,4 +1,4 @@
-// How large a screen is: 1 to 200 columns, 1 to 60 rows.
+// How large a screen is, 1 to 200 columns and 1 to 60 rows, and a place on it.
 ghost use Rattle.std.specs.Prelude.{◌≡◌, ◌*◌, ◌<◌, ◌≤◌, true, false, ◌&&◌, MatchOption, nat_le, nat_lt};
 
 #[derive(Clone, Copy, PartialEq, Eq)]
@@ -27,4 +27,11 @@ impl Size {
     {
         self.high * self.wide
     }
+}
+
+// A row and a column, counted from 0.
+#[derive(Clone, Copy, PartialEq, Eq)]
+pub struct Place {
+    pub row: usize,
+    pub col: usize,
 }
