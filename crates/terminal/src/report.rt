@@ -6,7 +6,7 @@ ghost use Rattle.terminal.specs.Answer.{Behind};
 ghost use Rattle.terminal.specs.Terms.{term_on};
 
 use crate::state::Terminal;
-use output::{number, push};
+use output::Buffer;
 
 impl Terminal {
     // CPR: row and column from 1, the row as CUP counts it
@@ -17,12 +17,14 @@ impl Terminal {
     {
         let first = if self.modes.origin { self.top } else { 0 };
         let row = self.cursor.row.saturating_sub(first) + 1;
-        let a = push(out, n, 27);
-        let b = push(out, a, 91);
-        let d = number(out, b, row);
-        let e = push(out, d, 59);
-        let f = number(out, e, self.cursor.col + 1);
-        push(out, f, 82)
+        let mut answer = Buffer { bytes: out, len: n };
+        answer.push(27);
+        answer.push(91);
+        answer.number(row);
+        answer.push(59);
+        answer.number(self.cursor.col + 1);
+        answer.push(82);
+        answer.len
     }
 
     // All is well.
@@ -31,10 +33,12 @@ impl Terminal {
         ensures added { Added n out.old result out.new (27 ∷ 91 ∷ 48 ∷ 110 ∷ []) }
         ensures most { result ≤ n + 10 }
     {
-        let a = push(out, n, 27);
-        let b = push(out, a, 91);
-        let d = push(out, b, 48);
-        push(out, d, 110)
+        let mut answer = Buffer { bytes: out, len: n };
+        answer.push(27);
+        answer.push(91);
+        answer.push(48);
+        answer.push(110);
+        answer.len
     }
 
     // DSR
