@@ -1,7 +1,6 @@
 -- The picture of one window with one pane: the pane's rows brought to the room's size, above the status line.
-use Rattle.std.proofs.Common.{◌≡◌, ℕ, zero, suc, ◌+◌, ◌-◌, ◌*◌, ◌<◌, ◌≤◌, Bool, true, List, [], ◌∷◌, ◌++◌, map, length, take, drop, replicate, sym, refl, ap, ◌∙◌, subst, append_assoc, le_of_suc-le-suc, not-suc-le-zero, suc-mul, arith, rules}
-use borrow.Rule.Slice.PartMut.{put_mid}
-use Rattle.std.proofs.lemmas.List.{append-nil, map-append, take-map, length-map, length-take, length-drop, length-append, length-replicate, take_all, take_at, drop_all, set_at, same_lists, places}
+use Rattle.std.proofs.Common.{◌≡◌, ℕ, zero, suc, ◌+◌, ◌-◌, ◌*◌, ◌<◌, ◌≤◌, Bool, true, List, [], ◌∷◌, ◌++◌, map, length, take, replicate, sym, refl, ap, ◌∙◌, subst, append_assoc, le_of_suc-le-suc, not-suc-le-zero, suc-mul, arith, rules}
+use Rattle.std.proofs.lemmas.List.{map-append, take-map, length-map, length-take, length-append, length-replicate, take_all, set_at, same_lists, places}
 use Rattle.std.proofs.lemmas.Bool.{eq-eqb, and_from}
 use Rattle.meaning.specs.Words.{so_many, put_at}
 use Rattle.meaning.specs.Screen.{Cell, Term, blank_row, row_at, fitted_row}
@@ -100,19 +99,6 @@ rows_one_more w h ys st ly ls =
     ap (pieces w (h + 1)) (map-append unpacked ys st)
     ∙ (pieces_append w h 1 (map unpacked ys) (map unpacked st) lm ∙ ap (λ (z : List Cell). pieces w h (map unpacked ys) ++ (z ∷ [])) lt)
 
--- ys are the room's cells, put over the first n, and st the last row, put behind them
-drawn_parts : (w h n m : ℕ) (xs ys st : List ℕ) → 0 < h → length xs ≡ h * w → n ≡ (h - 1) * w → m ≡ w
-    → length ys ≡ length (take n xs) → length st ≡ length (take m (drop ((h - 1) * w) (ys ++ drop n xs)))
-    → (put_mid ((h - 1) * w) m (ys ++ drop n xs) st ≡ ys ++ st) × (length ys ≡ (h - 1) * w) × (length st ≡ w) × (length (ys ++ st) ≡ h * w)
-drawn_parts w h n m xs ys st hp lx en em ky ks =
-    let hw : h * w ≡ (h - 1) * w + w = (let y : suc (h - 1) ≡ h = omega arith in sym (ap (λ (k : ℕ). k * w) y) ∙ suc-mul (h - 1) w) in
-    let ly : length ys ≡ (h - 1) * w = ky ∙ simp length-take (omega arith) in
-    let ls : length st ≡ w = ks ∙ simp (length-take, length-drop, length-append) (omega arith) in
-    let t : take ((h - 1) * w) (ys ++ drop n xs) ≡ ys = take_at ys (drop n xs) ((h - 1) * w) ly in
-    let l : length (drop ((h - 1) * w) (ys ++ drop n xs)) ≤ m = simp (length-append, length-drop) (omega arith) in
-    let d : drop m (drop ((h - 1) * w) (ys ++ drop n xs)) ≡ [] = drop_all m _ l in
-    (rw (t, d, append-nil), ly, ls, simp length-append (omega arith))
-
 -- what stands there then is the picture
 picture_drawn : (w h : ℕ) (ys st : List ℕ) (rs : Rows) → 0 < h → length ys ≡ (h - 1) * w → length st ≡ w
     → rows_of w (h - 1) ys ≡ rows_fitted w (h - 1) 0 rs → map unpacked st ≡ status_row (length st)
@@ -133,17 +119,16 @@ pub no_rows : (w h : ℕ) (xs : List ℕ) (rs : Rows) → h ≡ 0 → rows_of w 
 unfolding rows_of pieces
 no_rows w h xs rs e = rw e
 
--- what draw_pane leaves
-pub pictured : (w h v u n m : ℕ) (xs ys st cs : List ℕ) → 0 < h → length xs ≡ h * w → length cs ≡ u * v → n ≡ (h - 1) * w → m ≡ w
-    → length ys ≡ length (take n xs) → length st ≡ length (take m (drop ((h - 1) * w) (ys ++ drop n xs)))
-    → rows_of w (h - 1) ys ≡ rows_fitted w (h - 1) 0 (rows_of v u cs) → map unpacked st ≡ status_row (length (take m (drop ((h - 1) * w) (ys ++ drop n xs))))
-    → Pictured w h xs (put_mid ((h - 1) * w) m (ys ++ drop n xs) st) v u cs true
-pictured w h v u n m xs ys st cs hp lx lc en em ky ks er es =
-    let d = drawn_parts w h n m xs ys st hp lx en em ky ks in
-    let r = picture_drawn w h ys st (rows_of v u cs) hp d.1 d.2 er (es ∙ ap status_row (sym ks)) in
-    subst (λ (z : List ℕ). Pictured w h xs z v u cs true) (sym d.0) (record {
+-- what draw_pane leaves: ys are the room's cells and st the last row
+pub pictured : (w h v u : ℕ) (xs ys st cs : List ℕ) → 0 < h → length xs ≡ h * w → length cs ≡ u * v → length ys ≡ (h - 1) * w → length st + (h - 1) * w ≡ h * w
+    → rows_of w (h - 1) ys ≡ rows_fitted w (h - 1) 0 (rows_of v u cs) → map unpacked st ≡ status_row (length st) → Pictured w h xs (ys ++ st) v u cs true
+pictured w h v u xs ys st cs hp lx lc ly ls er es =
+    let hw : h * w ≡ (h - 1) * w + w = (let y : suc (h - 1) ≡ h = omega arith in sym (ap (λ (k : ℕ). k * w) y) ∙ suc-mul (h - 1) w) in
+    let r = picture_drawn w h ys st (rows_of v u cs) hp ly (omega arith) er es in
+    let l : length (ys ++ st) ≡ h * w = simp length-append (omega arith) in
+    record {
       told = sym (and_from _ _ (eq-eqb _ _ lx) (eq-eqb _ _ lc));
       rows = λ _. r;
-      numbers = λ _ i n t p e. sym (cells_of_rows w h (ys ++ st) d.3) ∙ ap cells_of (r i n t p e);
+      numbers = λ _ i n t p e. sym (cells_of_rows w h (ys ++ st) l) ∙ ap cells_of (r i n t p e);
       kept = λ e. absurd (search rules);
-    })
+    }

@@ -1,6 +1,6 @@
 -- What drawing the status line leaves.
-use Rattle.std.proofs.Common.{◌≡◌, ℕ, ◌-◌, min, List, [], ◌∷◌, ◌++◌, map, length, take, drop, replicate, sym, ap, ◌∙◌, arith, rules}
-use Rattle.std.proofs.lemmas.List.{map-append, take-map, drop-replicate, same_lists, places}
+use Rattle.std.proofs.Common.{◌≡◌, ℕ, ◌-◌, ◌<◌, min, get_or, List, [], ◌∷◌, ◌++◌, map, length, take, drop, replicate, sym, ap, ◌∙◌, arith, rules}
+use Rattle.std.proofs.lemmas.List.{length-map, get_or-map, map-append, take-map, drop-replicate, same_lists, places}
 use Rattle.meaning.specs.Picture.{turned}
 use Rattle.grid.specs.Cells.{unpacked}
 use Rattle.grid.proofs.Regions.{map_replicate}
@@ -10,14 +10,16 @@ use Rattle.layout.specs.Window.{status_row}
 filled_up : {A : Type 0} (n k : ℕ) (s : List A) (x : A) → k ≡ min n (length s) → take k s ++ replicate (n - k) x ≡ take n (s ++ replicate n x)
 filled_up n k s x e = same_lists _ _ (search (rules, places)) (λ k d h. grind (arith, places))
 
--- a, b and c are the signs; fs is the row filled with blanks and ps the signs that have room
-pub status_drawn : (a b c n k : ℕ) (fs ps : List ℕ) → unpacked a ≡ turned 32 → unpacked b ≡ turned 48 → unpacked c ≡ turned 42 → k ≡ min n 3
-    → fs ≡ replicate n a → ps ≡ take (k - 0) (a ∷ b ∷ c ∷ [])
-    → map unpacked (ps ++ drop (k - 0) fs) ≡ status_row n
-status_drawn a b c n k fs ps ea eb ec ek ef ep =
-    let z : k - 0 ≡ k = omega arith in
-    let signs : map unpacked (a ∷ b ∷ c ∷ []) ≡ turned 32 ∷ turned 48 ∷ turned 42 ∷ [] = rw (ea, eb, ec) in
-    let front : map unpacked ps ≡ take k (turned 32 ∷ turned 48 ∷ turned 42 ∷ []) =
-    ap (map unpacked) (ep ∙ rw z) ∙ (sym (take-map unpacked k (a ∷ b ∷ c ∷ [])) ∙ ap (take k) signs) in
-    let back : map unpacked (drop (k - 0) fs) ≡ replicate (n - k) (turned 32) = rw (z, ef, drop-replicate) (map_replicate unpacked (n - k) a ∙ ap (replicate (n - k)) ea) in
+pub each_turned : (xs ys : List ℕ) → length ys ≡ length xs → ((i : ℕ) → i < length xs → unpacked (get_or ys i 0) ≡ turned (get_or xs i 0)) → map unpacked ys ≡ map turned xs
+each_turned xs ys l f =
+    let n = length-map ys unpacked in
+    same_lists _ _ (n ∙ (l ∙ sym (length-map xs turned)))
+    (λ k d h. get_or-map unpacked ys k 0 d (omega arith) ∙ (f k (omega arith) ∙ sym (get_or-map turned xs k 0 d (omega arith))))
+
+-- ss are the signs and a the blank among them; fs is the row filled with blanks and ps the signs that have room
+pub status_drawn : (a n k : ℕ) (ss fs ps : List ℕ) → unpacked a ≡ turned 32 → map unpacked ss ≡ turned 32 ∷ turned 48 ∷ turned 42 ∷ [] → k ≡ min n 3
+    → fs ≡ replicate n a → ps ≡ take k ss → map unpacked (ps ++ drop k fs) ≡ status_row n
+status_drawn a n k ss fs ps ea es ek ef ep =
+    let front : map unpacked ps ≡ take k (turned 32 ∷ turned 48 ∷ turned 42 ∷ []) = ap (map unpacked) ep ∙ (sym (take-map unpacked k ss) ∙ ap (take k) es) in
+    let back : map unpacked (drop k fs) ≡ replicate (n - k) (turned 32) = rw (ef, drop-replicate) (map_replicate unpacked (n - k) a ∙ ap (replicate (n - k)) ea) in
     rw (map-append, front, back) (filled_up n k (turned 32 ∷ turned 48 ∷ turned 42 ∷ []) (turned 32) (omega arith))

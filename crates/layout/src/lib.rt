@@ -6,5 +6,5 @@ mod cursor;
 mod pane;
 mod status;
 
-pub use cursor::{ScreenCursor, cursor_of};
+pub use cursor::cursor_of;
 pub use pane::draw_pane;

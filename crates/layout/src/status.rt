@@ -4,18 +4,17 @@ ghost use Rattle.meaning.specs.Picture.{turned};
 ghost use Rattle.grid.specs.Cells.{unpacked};
 ghost use Rattle.layout.specs.Window.{status_row};
 
-use grid::cell::{Glyph, Rendition, pack};
+use grid::cell::{Glyph, Rendition};
 
 const REVERSE: Rendition = Rendition {
     marks: 4,
-    fore: 9,
-    back: 9,
+    ..Rendition::PLAIN
 };
 
 fn reversed(sign: u8) -> u64
     ensures { unpacked result ≡ turned sign }
 {
-    pack(Glyph {
+    u64::from(Glyph {
         sign: sign as u32,
         rendition: REVERSE,
     })
@@ -25,11 +24,8 @@ fn reversed(sign: u8) -> u64
 pub(crate) fn draw_status(row: &mut [u64])
     ensures { map unpacked row.new ≡ status_row (length row.old) }
 {
-    let blank = reversed(b' ');
-    let number = reversed(b'0');
-    let star = reversed(b'*');
-    let signs = [blank, number, star];
-    row.fill(blank);
-    let count = row.len().min(3);
-    row[0..count].copy_from_slice(&signs[0..count]);
+    let signs = [b' ', b'0', b'*'].map(reversed);
+    row.fill(signs[0]);
+    let count = row.len().min(signs.len());
+    row[..count].copy_from_slice(&signs[..count]);
 }

@@ -5,7 +5,8 @@ use Rattle.std.proofs.lemmas.List.{at_drop_more, at_drop_all, length-take-le, ta
 use Rattle.std.proofs.lemmas.Bool.{eq-eqb, ne_eqb, le-leb, lt-leb}
 use Rattle.meaning.specs.Words.{pick}
 use Rattle.output.proofs.Adding.{kept_on}
-use Rattle.output.specs.Added.{Added}
+use Rattle.output.specs.Added.{Added, Adds}
+use Rattle.output.specs.declared.Buffer.{Buffer}
 use Rattle.render.specs.Pens.{rendition_of, pen_after}
 use Rattle.render.specs.Draw.{Go, Drew, drawn, drawn_from, drawn_cell, at_start, cell_bytes}
 use Rattle.render.specs.declared.pen.Pen.{Pen}
@@ -65,35 +66,45 @@ refused w h room pic scr pen out f =
     let e : (eqb (length scr) (h * w) && eqb (length pic) (h * w)) ≡ false = grind (arith, nat_tests) in
     done _ scr pen 0 out out (rw e) refl (omega arith) refl
 
--- the loop before the cell i: what is left makes the whole
-pub record Going (w : ℕ) (pic : List ℕ) (all : Go) (out₀ : List ℕ) (i : ℕ) (screen : List ℕ) (pen : Pen) (n : ℕ) (out : List ℕ) : Type 0 where
-  pub on : drawn_from w (length out₀) (drop i pic) i (state screen pen n out) ≡ all
-  pub kept : drop n out ≡ drop n out₀
-  pub most : n ≤ length out₀
+-- the loop before the cell i: what is left makes the whole, and x is the buffer that the loop began with
+pub record Going (w : ℕ) (pic : List ℕ) (all : Go) (x : Buffer) (i : ℕ) (screen : List ℕ) (pen : Pen) (y : Buffer) : Type 0 where
+  pub on : drawn_from w (length x.bytes.now) (drop i pic) i (state screen pen y.len y.bytes.now) ≡ all
+  pub kept : drop y.len y.bytes.now ≡ drop y.len x.bytes.now
+  pub most : y.len ≤ length x.bytes.now
+  pub long : length y.bytes.now ≡ length x.bytes.now
+  pub same_row : y.bytes.ghost_name ≡ x.bytes.ghost_name
 
-pub turn_left : {w : ℕ} {pic : List ℕ} {all : Go} {out₀ : List ℕ} {i : ℕ} {screen : List ℕ} {pen : Pen} {n : ℕ} {out : List ℕ} →
-    length out ≡ length out₀ → i < length pic → (get_or screen i 0 ≡ get_or pic i 0) ⊎ (length out < n + 32) →
-    Going w pic all out₀ i screen pen n out → Going w pic all out₀ (i + 1) screen pen n out
-turn_left {w} {pic} {all} {out₀} {i} {screen} {pen} {n} {out} lo l d g =
+pub turn_left : {w : ℕ} {pic : List ℕ} {all : Go} {x : Buffer} {i : ℕ} {screen : List ℕ} {pen : Pen} {y : Buffer} →
+    i < length pic → (get_or screen i 0 ≡ get_or pic i 0) ⊎ (length y.bytes.now < y.len + 32) → Going w pic all x i screen pen y → Going w pic all x (i + 1) screen pen y
+turn_left {w} {pic} {all} {x} {i} {screen} {pen} {y} l d g =
     let m = g.most in
-    record { on = sym (goes_on w (length out₀) i pic _ _ l (cell_left w (length out₀) i (get_or pic i 0) screen pen n out (omega arith) (rw lo at d))) ∙ g.on; kept = g.kept; most = m }
-
-pub turn_sent : {w : ℕ} {pic : List ℕ} {all : Go} {out₀ : List ℕ} {i : ℕ} {screen : List ℕ} {pen pen₁ : Pen} {n r : ℕ} {out out₁ : List ℕ} →
-    length out ≡ length out₀ → i < length pic → (get_or screen i 0 ≡ get_or pic i 0 → ⊥) → n + 32 ≤ length out →
-    Added n out r out₁ (cell_bytes pen (i / w) (i % w) (get_or pic i 0)) → r ≤ n + 32 → pen₁ ≡ pen_after w pen (i / w) (i % w) (rendition_of (get_or pic i 0)) →
-    Going w pic all out₀ i screen pen n out → Going w pic all out₀ (i + 1) (set screen i (get_or pic i 0)) pen₁ r out₁
-turn_sent {w} {pic} {all} {out₀} {i} {screen} {pen} {pen₁} {n} {r} {out} {out₁} lo l d h a b e g =
-    let m = g.most in
+    let n = g.long in
     record {
-      on = rw e (sym (goes_on w (length out₀) i pic _ _ l (cell_sent w (length out₀) i (get_or pic i 0) screen pen n r out out₁ (omega arith) d (omega arith) a)) ∙ g.on);
-      kept = kept_on out₀ a g.kept;
-      most = omega arith;
+      on = sym (goes_on w (length x.bytes.now) i pic _ _ l (cell_left w (length x.bytes.now) i (get_or pic i 0) screen pen y.len y.bytes.now (omega arith) (rw n at d))) ∙ g.on;
+      kept = g.kept;
+      most = m;
+      long = n;
+      same_row = g.same_row;
     }
 
-pub drew : {w : ℕ} {pic scr₁ : List ℕ} {pen₁ : Pen} {r : ℕ} {out out₁ : List ℕ} {i : ℕ} (h : ℕ) (scr : List ℕ) (pen : Pen) → length scr ≡ h * w → length pic ≡ h * w → length pic ≤ i →
-    length out₁ ≡ length out → Going w pic (drawn_from w (length out) pic 0 (at_start scr pen)) out i scr₁ pen₁ r out₁ → Drew (drawn w h pic (length out) scr pen) scr₁ pen₁ r out out₁
-unfolding drawn drawn_from
-drew {w} {pic} {scr₁} {pen₁} {r} {out} {out₁} {i} h scr pen a b l n g =
-    let f = at_drop_all (λ (ps : List ℕ). drawn_from w (length out) ps i (state scr₁ pen₁ r out₁)) pic i l in
+pub turn_sent : {w : ℕ} {pic : List ℕ} {all : Go} {x : Buffer} {i : ℕ} {screen : List ℕ} {pen pen₁ : Pen} {y z : Buffer} →
+    i < length pic → (get_or screen i 0 ≡ get_or pic i 0 → ⊥) → y.len + 32 ≤ length y.bytes.now →
+    Adds y z (cell_bytes pen (i / w) (i % w) (get_or pic i 0)) → z.len ≤ y.len + 32 → pen₁ ≡ pen_after w pen (i / w) (i % w) (rendition_of (get_or pic i 0)) →
+    Going w pic all x i screen pen y → Going w pic all x (i + 1) (set screen i (get_or pic i 0)) pen₁ z
+turn_sent {w} {pic} {all} {x} {i} {screen} {pen} {pen₁} {y} {z} l d h a b e g =
     let m = g.most in
-    done _ scr₁ pen₁ r out out₁ (rw (eq-eqb (length scr) (h * w) a, eq-eqb (length pic) (h * w) b) (sym f ∙ g.on)) g.kept (omega arith) n
+    let n = g.long in
+    record {
+      on = rw e (sym (goes_on w (length x.bytes.now) i pic _ _ l (cell_sent w (length x.bytes.now) i (get_or pic i 0) screen pen y.len z.len y.bytes.now z.bytes.now (omega arith) d (omega arith) a.added)) ∙ g.on);
+      kept = kept_on x.bytes.now a.added g.kept;
+      most = omega arith;
+      long = a.long ∙ n;
+      same_row = a.same_row ∙ g.same_row;
+    }
+
+pub drew : {w : ℕ} {pic scr₁ : List ℕ} {pen₁ : Pen} {x y : Buffer} {i : ℕ} (h : ℕ) (scr : List ℕ) (pen : Pen) → length scr ≡ h * w → length pic ≡ h * w → length pic ≤ i →
+    Going w pic (drawn_from w (length x.bytes.now) pic 0 (at_start scr pen)) x i scr₁ pen₁ y → Drew (drawn w h pic (length x.bytes.now) scr pen) scr₁ pen₁ y.len x.bytes.now y.bytes.now
+unfolding drawn drawn_from
+drew {w} {pic} {scr₁} {pen₁} {x} {y} {i} h scr pen a b l g =
+    let f = at_drop_all (λ (ps : List ℕ). drawn_from w (length x.bytes.now) ps i (state scr₁ pen₁ y.len y.bytes.now)) pic i l in
+    done _ scr₁ pen₁ y.len x.bytes.now y.bytes.now (rw (eq-eqb (length scr) (h * w) a, eq-eqb (length pic) (h * w) b) (sym f ∙ g.on)) g.kept g.most g.long

@@ -1,8 +1,9 @@
 // What a viewer's terminal is set to.
-ghost use Rattle.std.specs.Prelude.{◌≡◌};
-ghost use Rattle.render.specs.Pens.{fresh_pen};
+ghost use Rattle.std.specs.Prelude.{◌≡◌, ◌<◌, ◌&&◌, ◌==◌};
+ghost use Rattle.render.specs.Pens.{fresh_pen, rendition_of, is_at, pen_after};
 
 use grid::cell::Rendition;
+use grid::size::Place;
 
 // `pending` is a pending wrap; `visible` says whether the cursor is.
 #[derive(Clone, Copy)]
@@ -23,12 +24,38 @@ impl Pen {
             row: 0,
             col: 0,
             pending: false,
-            rendition: Rendition {
-                marks: 0,
-                fore: 9,
-                back: 9,
-            },
+            rendition: Rendition::PLAIN,
             visible: true,
+        }
+    }
+
+    // Is the cursor there? A wrap that is pending does not move it.
+    pub(crate) fn stands_at(self, place: Place) -> bool
+        ensures { result ≡ (self.row == place.row && self.col == place.col) }
+    {
+        self.row == place.row && self.col == place.col
+    }
+
+    // Would a character go to this place?
+    pub(crate) fn is_at(self, place: Place) -> bool
+        ensures { result ≡ is_at self place.row place.col }
+    {
+        !self.pending && self.stands_at(place)
+    }
+
+    // Set as it is after the character of this number at a place.
+    pub(crate) fn after(self, wide: usize, place: Place, p: u64) -> Pen
+        requires { place.col < wide }
+        ensures { result ≡ pen_after wide self place.row place.col (rendition_of p) }
+    {
+        let Place { row, col } = place;
+        let last = col + 1 == wide;
+        Pen {
+            row,
+            col: if last { col } else { col + 1 },
+            pending: last,
+            rendition: Rendition::from(p),
+            visible: self.visible,
         }
     }
 }

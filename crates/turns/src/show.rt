@@ -58,8 +58,7 @@ fn send_cursor(size: Size, pane: &Terminal, pen: &mut Pen, out: &mut [u8]) -> us
         Closed (closing_at size.wide size.high (spot (one_pane size.wide size.high i (term_of pane.now rs a) n p)) pen.old)
         pen.new result out.old out.new }
 {
-    let c = cursor_of(size, pane);
-    finish(pen, size, c.row, c.col, c.visible, &mut out[0..4096])
+    finish(pen, size, cursor_of(size, pane), &mut out[0..4096])
 }
 
 // No cell differs: the cursor is put right, or there is nothing to do.

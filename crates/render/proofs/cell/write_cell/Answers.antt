@@ -1,13 +1,10 @@
-use Rattle.std.proofs.Common.{arith}
-use Rattle.output.proofs.Adding.{then}
+use Rattle.std.proofs.Common.{rules, arith}
+use Rattle.output.proofs.Adding.{both}
 use Rattle.render.specs.Draw.{cell_bytes}
 use Rattle.render.proofs.cell.write_cell.Goals as goal
 
-pub returns : goal.returns
+pub returns-clause-added : goal.returns-clause-added
 unfolding cell_bytes
-returns c =
+returns-clause-added c =
     let p = c.push.ensures.added (omega arith) in
-    record {
-      added = then c.move_to-a.ensures.added (then (rw c.rendition.ensures at c.restyle-b.ensures.added) p);
-      most = omega arith;
-    }
+    both c.move_to.ensures.added (both (search rules) p)

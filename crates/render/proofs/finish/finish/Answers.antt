@@ -1,4 +1,4 @@
-use Rattle.std.proofs.Common.{sym, ◌∙◌, arith}
+use Rattle.std.proofs.Common.{sym, ◌∙◌, arith, rules}
 use Rattle.std.proofs.lemmas.Bool.{and_right}
 use Rattle.std.proofs.lemmas.Bool.Decides.{nat_tests}
 use Rattle.render.proofs.Finishing.{refused, closed}
@@ -12,4 +12,8 @@ returns-then-out-lt16 c = refused _ _ _ _ _ _ _ (elim c.then-out-lt16.branch [
 ])
 
 pub returns : goal.returns
-returns c = closed _ _ _ _ _ _ _ _ _ _ (omega arith) (sym c.allowed.ensures ∙ c.if-not-allowed.false) c.write_closing-len.ensures.added c.write_closing-len.ensures.most c.closing_pen.ensures
+returns c =
+    let a = c.close.ensures.added in
+    let s = a.same_row in
+    let d = closed c.args.size.wide c.args.size.high _ _ _ _ _ _ _ _ (omega arith) (sym c.allowed.ensures ∙ c.if-not-allowed.false) a.added c.close.ensures.most c.close.ensures.set_to in
+    search rules

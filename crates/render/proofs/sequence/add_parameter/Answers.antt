@@ -1,8 +1,8 @@
 use Rattle.std.proofs.Common.{arith}
-use Rattle.output.proofs.Adding.{then}
+use Rattle.output.proofs.Adding.{both, room_left}
 use Rattle.render.proofs.sequence.add_parameter.Goals as goal
 
-pub returns : goal.returns
-returns c =
-    let p = c.push-a.ensures.added (omega arith) in
-    record { added = then p (c.number.ensures.added (omega arith) (omega arith)); most = let m = c.number.ensures.most in omega arith }
+pub returns-clause-added : goal.returns-clause-added
+returns-clause-added c =
+    let p = c.push.ensures.added (omega arith) in
+    both p (c.number.ensures.added (let r = room_left 3 p (omega arith) in omega arith) (omega arith))

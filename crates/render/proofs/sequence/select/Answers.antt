@@ -1,19 +1,12 @@
 use Rattle.std.proofs.Common.{arith}
-use Rattle.output.proofs.Adding.{then}
+use Rattle.output.proofs.Adding.{both}
 use Rattle.render.specs.Sequences.{graphic_rendition}
 use Rattle.render.proofs.sequence.select.Goals as goal
 
-pub returns : goal.returns
+pub returns-clause-added : goal.returns-clause-added
 unfolding graphic_rendition
-returns c =
-    let p = c.push-b.ensures.added (omega arith) in
-    let q = c.push.ensures.added (omega arith) in
-    record {
-      added =
-          then c.introduce-a.ensures.added
-          (then p
-          (then c.add_if-d.ensures.added
-          (then c.add_if-e.ensures.added
-          (then c.add_if-f.ensures.added (then c.add_parameter-g.ensures.added (then c.add_parameter-h.ensures.added q))))));
-      most = omega arith;
-    }
+returns-clause-added c =
+    let p = c.push.ensures.added (omega arith) in
+    let q = c.push-2.ensures.added (omega arith) in
+    both c.introduce.ensures
+    (both p (both c.add_if.ensures.added (both c.add_if-2.ensures.added (both c.add_if-3.ensures.added (both c.add_parameter.ensures.added (both c.add_parameter-2.ensures.added q))))))
