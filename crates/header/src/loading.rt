@@ -83,7 +83,7 @@ fn load_parameters(header: &[u64; 64]) -> Option<[u16; 16]>
 fn load_parser(header: &[u64; 64]) -> Option<Parser>
     ensures { MatchOption result (reading_fits header.now ≡ false) (λ p. (reading_fits header.now ≡ true) × (reading_of p ≡ reading_from header.now)) }
 {
-    if header[16] > 5 || header[18] > 16 {
+    if header[18] > 16 {
         return None;
     }
     let value = u16::try_from(header[20]).ok()?;
@@ -101,7 +101,8 @@ fn load_parser(header: &[u64; 64]) -> Option<Parser>
         ),
         3 => Parser::Ignored,
         4 => Parser::Text,
-        _ => Parser::TextEnd,
+        5 => Parser::TextEnd,
+        _ => return None,
     })
 }
 
