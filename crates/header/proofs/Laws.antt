@@ -4,14 +4,13 @@ use lib.ListN.{length-replicate}
 use Rattle.std.specs.List.{AllByRecursion}
 use Rattle.std.proofs.lemmas.List.{take-take, take_all, take_at}
 use Rattle.std.proofs.ByRecursion.{All-append, All-take, All-weaker}
-use Rattle.std.proofs.lemmas.Bool.{and_from, lt-ltb, le-leb}
+use Rattle.std.proofs.lemmas.Bool.{and_from, eq-eqb, lt-ltb, le-leb}
 use Rattle.std.proofs.lemmas.Bool.Decides.{Decides-ltb}
 use Rattle.meaning.specs.Screen.{Style, Cell, Term, Reading, ground_state, escape, sequence, passed, string, string_end, with_rows, with_answer}
 use Rattle.meaning.proofs.Edits.{decides_every, all_replicate}
 use Rattle.meaning.specs.Promise.{all_small}
 use Rattle.grid.proofs.Codes.{unpacked_packed}
 use Rattle.header.specs.Header.{yes, bit, style_number, style_from, reading_fits, begun_from, reading_from, header_fits, term_from, numbers_of_screen, has_begun, parser_state, numbers_of_parser, parameters_in, padded, header_of, StyleFits, ReadingFits, InRange, HeaderLong, LoadsBack}
-use Rattle.header.proofs.Refused.{fits}
 
 yes_bit : (b : Bool) → yes (bit b) ≡ b
 yes_bit true = refl
@@ -180,13 +179,13 @@ term_back t rs a f =
     }
 
 header_accepted : (t : Term) → InRange t → header_fits (header_of t) ≡ true
-unfolding header_of numbers
+unfolding header_of numbers header_fits
 header_accepted t f =
     let r = t.reading in
     let size = and_from _ _ (lt-ltb 0 t.wide f.some_wide) (and_from _ _ (le-leb t.wide 200 f.narrow) (and_from _ _ (lt-ltb 0 t.high f.some_high) (le-leb t.high 60 f.low))) in
     let cursor = and_from _ _ (lt-ltb t.row t.high f.on_row) (lt-ltb t.col t.wide f.on_col) in
     let region = and_from _ _ (le-leb t.top t.bottom f.ordered) (lt-ltb t.bottom t.high f.inside) in
-    fits (header_of t) (header_long t) size cursor region (reading_accepted t r f.reads)
+    and_from _ _ (eq-eqb (length (header_of t)) 64 (header_long t)) (and_from _ _ size (and_from _ _ cursor (and_from _ _ region (reading_accepted t r f.reads))))
 
 header_words : (t : Term) → InRange t → AllByRecursion Word (header_of t)
 unfolding header_of

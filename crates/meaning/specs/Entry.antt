@@ -1,11 +1,11 @@
 -- What the two entries answer: the one that changes a style, and one step of the machine, told to the world outside in numbers.
-use Rattle.std.specs.Prelude.{◌≡◌, ℕ, ◌+◌, ◌*◌, ◌/◌, ◌%◌, Bool, true, false, ◌&&◌, List, ◌++◌, length, drop, ◌==◌, nat_le, nat_lt}
+use Rattle.std.specs.Prelude.{◌≡◌, ℕ, ◌+◌, ◌*◌, ◌/◌, ◌%◌, Bool, true, false, ◌&&◌, List, ◌++◌, length, drop, ◌==◌, nat_le, nat_lt, Ok, Err, Result}
 use Rattle.meaning.specs.Words.{pick, or}
 use Rattle.meaning.specs.Screen.{Style, styled}
 use Rattle.meaning.specs.Panes.{key, from, gone, attach, Says, send, start, sized, stop, leave, over}
 use Rattle.meaning.specs.Promise.{Engine, ToldIt, comes, next, Act, write, says, wait}
-use Rattle.meaning.specs.declared.answer.Reply.{Reply}
-use Rattle.meaning.specs.declared.answer.Reply.TheVariants.{DrawnSo, Refused}
+use Rattle.meaning.specs.declared.answer.Refusal.{Refusal}
+use Rattle.meaning.specs.declared.answer.Refusal.TheVariants.{NoStyle, TooMany}
 use Rattle.meaning.specs.declared.answer.Told.{Told}
 use Rattle.meaning.specs.declared.answer.Told.TheVariants.{Write, Send, Start, Size, Stop, Leave, Over, Wait, No}
 
@@ -19,10 +19,13 @@ as_number s = 100 * s.marks + 10 * s.fore + s.back
 abbrev pub a_colour : ℕ → Bool
 a_colour k = or (nat_lt k 8) (k == 9)
 
--- a style after the numbers of one SGR as they stand; refused with 1 if the number is no style, with 2 if there are more than 16 numbers
-abbrev pub restyled : ℕ → List ℕ → Reply
+abbrev pub a_style : ℕ → Bool
+a_style n = (nat_lt n 800 && a_colour (n / 10 % 10)) && a_colour (n % 10)
+
+-- a style after the numbers of one SGR as they stand; `NoStyle` (the statement's refusal 1) if the number is no style, `TooMany` (its 2) if there are more than 16 numbers
+abbrev pub restyled : ℕ → List ℕ → Result ℕ Refusal
 restyled n ns =
-    pick ((nat_lt n 800 && a_colour (n / 10 % 10)) && a_colour (n % 10)) (pick (nat_le (length ns) 16) (DrawnSo (as_number (styled (as_style n) ns))) (Refused 2)) (Refused 1)
+    pick (a_style n) (pick (nat_le (length ns) 16) (Ok (as_number (styled (as_style n) ns))) (Err TooMany)) (Err NoStyle)
 
 -- what comes in is a kind, a number or two, and some bytes: 0 a key, 1 bytes from a program, 2 a program's end, 3 a viewer's size, 4 go on
 unfoldable pub told_of : ℕ → ℕ → ℕ → List ℕ → ToldIt

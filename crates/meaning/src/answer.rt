@@ -1,12 +1,12 @@
 // What the entries answer. Cases with several values have them in one number, as the comments say.
 
-// The answer of the entry that changes a style.
-#[derive(Clone, Copy)]
-pub enum Reply {
-    // The style as one number: marks times 100, the colour times 10, the ground.
-    DrawnSo(u64),
-    // The number of the refusal.
-    Refused(u64),
+// Why a style is not changed.
+#[derive(Clone, Copy, PartialEq, Eq)]
+pub enum Refusal {
+    // The number is no style.
+    NoStyle,
+    // There are more than 16 numbers.
+    TooMany,
 }
 
 // What one step of the machine does.

@@ -5,7 +5,7 @@ mod answer;
 
 ghost use Rattle.meaning.specs.Laws.{InParts, Restored, OnAndBack, KeysGo, PictureLarge, Shared, StaysGood, StaysDrawable};
 
-pub use answer::{Reply, Told};
+pub use answer::{Refusal, Told};
 
 // Bytes can be written in two parts, cut anywhere.
 pub fn in_parts_stands() -> u8

@@ -3,3 +3,4 @@ pub mod Blanked
 pub mod Finals
 pub mod Lows
 pub mod Feeding
+pub mod Renditions

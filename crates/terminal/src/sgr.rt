@@ -49,9 +49,5 @@ pub(crate) fn change(r: Rendition, n: u64) -> Rendition
 pub(crate) fn select_graphic_rendition(start: Rendition, numbers: &[u16]) -> Rendition
     ensures { style_of result ≡ styled (style_of start) numbers.now }
 {
-    let mut s = start;
-    for n in numbers {
-        s = change(s, *n as u64);
-    }
-    s
+    numbers.iter().fold(start, |s, n| change(s, u64::from(*n)))
 }
