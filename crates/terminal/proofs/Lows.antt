@@ -53,10 +53,6 @@ sequence_done t p ps now c h =
     let f : eqb c 63 ≡ false = ne_eqb c 63 (λ e. omega arith) in
     let g : leb 64 c ≡ true = le-leb 64 c h in simp (a, b, d, f, g)
 
-pub sequence_read : (t : Term) (s : Parser) (private : Bool) (p : Parameters) (c : ℕ) → s ≡ Sequence private p → c < 128
-    → byte_read t (reading_of s) c ≡ byte_of_sequence t private (numbers_of p) (begun_of p.begun) c
-sequence_read t s private p c e h = rw (e, lt-leb 128 c h)
-
 -- all bytes
 pub byte_low : (t : Term) (c : ℕ) → c < 32 → byte t c ≡ low_byte t c
 unfolding byte

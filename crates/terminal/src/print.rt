@@ -4,7 +4,7 @@ ghost use Rattle.meaning.specs.Screen.{Term, at, row_on, put_sign, step_right, p
 ghost use Rattle.terminal.specs.Terms.{term_on};
 
 use crate::state::{Cursor, Terminal};
-use grid::cell::{Glyph, pack};
+use grid::cell::Glyph;
 use grid::line;
 
 impl Terminal {
@@ -32,7 +32,7 @@ impl Terminal {
             sign: sign as u32,
             rendition: self.rendition,
         };
-        line::put(cells, self.size, row, col, pack(glyph));
+        line::put(cells, self.size, row, col, u64::from(glyph));
     }
 
     // One column on; at the last the cursor stays, with a wrap pending if autowrap is set.
