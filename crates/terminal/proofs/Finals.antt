@@ -1,5 +1,5 @@
 -- A sequence by its final byte: at a numeral the decision computes.
-use Rattle.std.proofs.Common.{◌≡◌, ℕ, Bool, true, false, List}
+use Rattle.std.proofs.Common.{◌≡◌, ℕ, false, List}
 use Rattle.meaning.specs.Screen.{Term}
 use Rattle.meaning.specs.Bytes.{done_sequence, done_escape}
 

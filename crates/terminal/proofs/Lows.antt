@@ -4,10 +4,6 @@ use Rattle.std.proofs.lemmas.Bool.{ne_eqb, lt-leb, le-leb, lt-ltb, le-ltb}
 use Rattle.meaning.specs.Words.{pick, none_of}
 use Rattle.meaning.specs.Screen.{Term, Reading, with_reading, sequence, passed, escape}
 use Rattle.meaning.specs.Bytes.{low_byte, is_string, control, back_to_ground, byte_of_sequence, done_sequence, all_numbers, byte, byte_read, add_digit, ended}
-use Rattle.terminal.specs.declared.state.Parser.{Parser}
-use Rattle.terminal.specs.declared.state.Parser.TheVariants.{Sequence}
-use Rattle.terminal.specs.declared.state.Parameters.{Parameters}
-use Rattle.terminal.specs.Terms.{reading_of, numbers_of, begun_of}
 use Rattle.terminal.specs.Parsing.{parameter_read, string_read}
 
 with_pick : (t : Term) (b : Bool) (x y : Reading) → pick b (with_reading t x) (with_reading t y) ≡ with_reading t (pick b x y)

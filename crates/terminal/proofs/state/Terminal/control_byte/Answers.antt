@@ -1,4 +1,4 @@
-use Rattle.std.proofs.Common.{sym, ap, ◌∙◌, inl, inr, arith}
+use Rattle.std.proofs.Common.{sym, ap, ◌∙◌, arith}
 use Rattle.meaning.specs.Screen.{with_reading}
 use Rattle.terminal.specs.Terms.{term_on}
 use Rattle.terminal.proofs.Lows.{low_control, low_string, low_escape, low_cancel}
