@@ -1,6 +1,6 @@
 // Control characters, and escape sequences.
 ghost use Rattle.std.specs.Prelude.{◌≡◌, ℕ, ◌*◌, List, length};
-ghost use Rattle.meaning.specs.Screen.{escape, at, row_on};
+ghost use Rattle.meaning.specs.Screen.{escape};
 ghost use Rattle.meaning.specs.Bytes.{control, byte_read, done_escape, is_string, low_byte};
 ghost use Rattle.terminal.specs.Parsing.{string_read};
 ghost use Rattle.terminal.specs.Terms.{reading_of, term_on};
@@ -19,15 +19,6 @@ fn string_byte(b: u8) -> Parser
 }
 
 impl Terminal {
-    // NEL
-    fn next_line_scrolling(&mut self, cells: &mut [u64])
-        requires { length cells.old ≡ self.old.size.high * self.old.size.wide }
-        ensures { (a : List ℕ) → term_on self.new cells.new a ≡ at (row_on (term_on self.old cells.old a)) (row_on (term_on self.old cells.old a)).row 0 }
-    {
-        self.index(cells);
-        self.carriage_return();
-    }
-
     fn control_character(&mut self, cells: &mut [u64], b: u8)
         requires { length cells.old ≡ self.old.size.high * self.old.size.wide }
         ensures { (a : List ℕ) → term_on self.new cells.new a ≡ control (term_on self.old cells.old a) b }
@@ -50,7 +41,7 @@ impl Terminal {
             b'7' => self.save_cursor(),
             b'8' => self.restore_cursor(),
             b'D' => self.index(cells),
-            b'E' => self.next_line_scrolling(cells),
+            b'E' => self.new_line(cells),
             b'M' => self.reverse_index(cells),
             b'c' => self.reset(cells),
             _ => {}
