@@ -7,6 +7,7 @@ ghost use Rattle.meaning.specs.Words.{none_of, pick};
 ghost use Rattle.terminal.specs.Answer.{Behind, said};
 ghost use Rattle.terminal.specs.Terms.{term_on};
 
+use crate::edit::Extent;
 use crate::parameters::{count_at, value_at};
 use crate::sgr::select_graphic_rendition;
 use crate::state::Terminal;
@@ -41,8 +42,16 @@ impl Terminal {
             b'F' => self.previous_line(k),
             b'G' => self.cursor_column(k - 1),
             b'H' | b'f' => self.cursor_position(k - 1, count_at(ps, 1) - 1),
-            b'J' => self.erase_in_display(cells, value_at(ps, 0)),
-            b'K' => self.erase_in_line(cells, value_at(ps, 0)),
+            b'J' => {
+                if let Some(part) = Extent::of(value_at(ps, 0)) {
+                    self.erase_in_display(cells, part);
+                }
+            }
+            b'K' => {
+                if let Some(part) = Extent::of(value_at(ps, 0)) {
+                    self.erase_in_line(cells, part);
+                }
+            }
             b'L' => self.insert_lines(cells, k),
             b'M' => self.delete_lines(cells, k),
             b'P' => self.delete_characters(cells, k),
