@@ -4,10 +4,6 @@ use Rattle.std.proofs.lemmas.Bool.{ne_eqb, lt-leb, le-leb, lt-ltb, le-ltb}
 use Rattle.meaning.specs.Words.{pick, none_of}
 use Rattle.meaning.specs.Screen.{Term, Reading, with_reading, sequence, passed, escape}
 use Rattle.meaning.specs.Bytes.{low_byte, is_string, control, back_to_ground, byte_of_sequence, done_sequence, all_numbers, byte, byte_read, add_digit, ended}
-use Rattle.terminal.specs.declared.state.Parser.{Parser}
-use Rattle.terminal.specs.declared.state.Parser.TheVariants.{Sequence}
-use Rattle.terminal.specs.declared.state.Parameters.{Parameters}
-use Rattle.terminal.specs.Terms.{reading_of, numbers_of, begun_of}
 use Rattle.terminal.specs.Parsing.{parameter_read, string_read}
 
 with_pick : (t : Term) (b : Bool) (x y : Reading) → pick b (with_reading t x) (with_reading t y) ≡ with_reading t (pick b x y)
@@ -52,10 +48,6 @@ sequence_done t p ps now c h =
     let d : eqb c 59 ≡ false = ne_eqb c 59 (λ e. omega arith) in
     let f : eqb c 63 ≡ false = ne_eqb c 63 (λ e. omega arith) in
     let g : leb 64 c ≡ true = le-leb 64 c h in simp (a, b, d, f, g)
-
-pub sequence_read : (t : Term) (s : Parser) (private : Bool) (p : Parameters) (c : ℕ) → s ≡ Sequence private p → c < 128
-    → byte_read t (reading_of s) c ≡ byte_of_sequence t private (numbers_of p) (begun_of p.begun) c
-sequence_read t s private p c e h = rw (e, lt-leb 128 c h)
 
 -- all bytes
 pub byte_low : (t : Term) (c : ℕ) → c < 32 → byte t c ≡ low_byte t c

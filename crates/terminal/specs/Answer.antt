@@ -1,14 +1,21 @@
 -- What a terminal answers goes behind what a lent row holds already.
 use Rattle.std.specs.Prelude.{◌≡◌, ℕ, ◌+◌, ◌*◌, ◌≤◌, Bool, ◌&&◌, List, [], length, take, drop, ◌==◌, nat_le}
 use Rattle.meaning.specs.Bytes.{written}
+use Rattle.output.specs.declared.Buffer.{Buffer}
 use Rattle.terminal.specs.Terms.{term_on}
 use Rattle.terminal.specs.declared.state.Terminal.{Terminal}
 
--- the first n of old counted and now the first r of new do, at most `most` more; what lies behind is kept
-pub record Behind (most n : ℕ) (old : List ℕ) (r : ℕ) (new : List ℕ) : Type 0 where
-  pub least : n ≤ r
-  pub few : r ≤ n + most
-  pub kept : drop r new ≡ drop r old
+-- the bytes that count
+abbrev pub said : Buffer → List ℕ
+said b = take b.len b.bytes.now
+
+-- as many bytes of the lent row count as before, or at most `most` more; what lies behind is kept
+pub record Behind (most : ℕ) (old new : Buffer) : Type 0 where
+  pub least : old.len ≤ new.len
+  pub few : new.len ≤ old.len + most
+  pub kept : drop new.len new.bytes.now ≡ drop new.len old.bytes.now
+  pub long : length new.bytes.now ≡ length old.bytes.now
+  pub same_row : new.bytes.ghost_name ≡ old.bytes.ghost_name
 
 -- up to 4,096 bytes can be fed, with the cells of the screen and room for ten bytes of answer to each
 abbrev pub can_feed : Terminal → List ℕ → List ℕ → List ℕ → Bool

@@ -3,3 +3,4 @@ pub mod Parsing
 pub mod Sgr
 pub mod Answer
 pub mod Sizes
+pub mod Extents

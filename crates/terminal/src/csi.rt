@@ -1,15 +1,17 @@
 // Control sequences (CSI): from a sequence's final byte to its control function.
-ghost use Rattle.std.specs.Prelude.{◌≡◌, ℕ, ◌+◌, ◌*◌, ◌≤◌, false, List, [], ◌∷◌, length, take, ◌≢◌};
+ghost use Rattle.std.specs.Prelude.{◌≡◌, ℕ, ◌+◌, ◌*◌, ◌≤◌, false, List, [], ◌∷◌, length, ◌≢◌};
 ghost use Rattle.grid.specs.Cells.{style_of};
 ghost use Rattle.meaning.specs.Bytes.{done_sequence};
 ghost use Rattle.meaning.specs.Screen.{styled, with_style};
 ghost use Rattle.meaning.specs.Words.{none_of, pick};
-ghost use Rattle.terminal.specs.Answer.{Behind};
+ghost use Rattle.terminal.specs.Answer.{Behind, said};
 ghost use Rattle.terminal.specs.Terms.{term_on};
 
+use crate::edit::Extent;
 use crate::parameters::{count_at, value_at};
 use crate::sgr::select_graphic_rendition;
 use crate::state::Terminal;
+use output::Buffer;
 
 impl Terminal {
     // SGR; no parameter counts as 0
@@ -31,30 +33,38 @@ impl Terminal {
     {
         let k = count_at(ps, 0);
         match b {
-            64 => self.insert_characters(cells, k),
-            65 => self.cursor_up(k),
-            66 => self.cursor_down(k),
-            67 => self.cursor_forward(k),
-            68 => self.cursor_back(k),
-            69 => self.next_line(k),
-            70 => self.previous_line(k),
-            71 => self.cursor_column(k - 1),
-            72 | 102 => self.cursor_position(k - 1, count_at(ps, 1) - 1),
-            74 => self.erase_in_display(cells, value_at(ps, 0)),
-            75 => self.erase_in_line(cells, value_at(ps, 0)),
-            76 => self.insert_lines(cells, k),
-            77 => self.delete_lines(cells, k),
-            80 => self.delete_characters(cells, k),
-            83 => self.scroll_up(cells, k),
-            84 => self.scroll_down(cells, k),
-            88 => self.erase_characters(cells, k),
-            100 => self.cursor_position(k - 1, self.cursor.col),
-            104 => self.set_modes(true, false, ps),
-            108 => self.set_modes(false, false, ps),
-            109 => self.set_rendition(ps),
-            114 => self.set_scroll_region(k, value_at(ps, 1)),
-            115 => self.save_cursor(),
-            117 => self.restore_cursor(),
+            b'@' => self.insert_characters(cells, k),
+            b'A' => self.cursor_up(k),
+            b'B' => self.cursor_down(k),
+            b'C' => self.cursor_forward(k),
+            b'D' => self.cursor_back(k),
+            b'E' => self.next_line(k),
+            b'F' => self.previous_line(k),
+            b'G' => self.cursor_column(k - 1),
+            b'H' | b'f' => self.cursor_position(k - 1, count_at(ps, 1) - 1),
+            b'J' => {
+                if let Some(part) = Extent::of(value_at(ps, 0)) {
+                    self.erase_in_display(cells, part);
+                }
+            }
+            b'K' => {
+                if let Some(part) = Extent::of(value_at(ps, 0)) {
+                    self.erase_in_line(cells, part);
+                }
+            }
+            b'L' => self.insert_lines(cells, k),
+            b'M' => self.delete_lines(cells, k),
+            b'P' => self.delete_characters(cells, k),
+            b'S' => self.scroll_up(cells, k),
+            b'T' => self.scroll_down(cells, k),
+            b'X' => self.erase_characters(cells, k),
+            b'd' => self.cursor_position(k - 1, self.cursor.col),
+            b'h' => self.set_modes(true, false, ps),
+            b'l' => self.set_modes(false, false, ps),
+            b'm' => self.set_rendition(ps),
+            b'r' => self.set_scroll_region(k, value_at(ps, 1)),
+            b's' => self.save_cursor(),
+            b'u' => self.restore_cursor(),
             _ => {}
         }
     }
@@ -65,26 +75,19 @@ impl Terminal {
         private: bool,
         ps: &[u16],
         b: u8,
-        out: &mut [u8],
-        n: usize,
-    ) -> usize
+        answer: &mut Buffer,
+    )
         requires cells { length cells.old ≡ self.old.size.high * self.old.size.wide }
-        requires room { n + 10 ≤ length out.old }
-        ensures term { term_on self.new cells.new (take result out.new) ≡ done_sequence (term_on self.old cells.old (take n out.old)) private ps.now b }
-        ensures answer { Behind 10 n out.old result out.new }
+        requires room { answer.old.len + 10 ≤ length answer.old.bytes.now }
+        ensures term { term_on self.new cells.new (said answer.new) ≡ done_sequence (term_on self.old cells.old (said answer.old)) private ps.now b }
+        ensures answer { Behind 10 answer.old answer.new }
     {
-        if private {
-            match b {
-                104 => self.set_modes(true, true, ps),
-                108 => self.set_modes(false, true, ps),
-                _ => {}
-            }
-            return n;
+        match (private, b) {
+            (true, b'h') => self.set_modes(true, true, ps),
+            (true, b'l') => self.set_modes(false, true, ps),
+            (true, _) => {}
+            (false, b'n') => self.device_status(value_at(ps, 0), answer),
+            (false, _) => self.control_function(cells, ps, b),
         }
-        if b == 110 {
-            return self.device_status(value_at(ps, 0), out, n);
-        }
-        self.control_function(cells, ps, b);
-        n
     }
 }

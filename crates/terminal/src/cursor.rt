@@ -1,5 +1,5 @@
 // Control functions that move the cursor, set the scroll region, or save and restore. Cells and answers stay, whatever they are.
-ghost use Rattle.std.specs.Prelude.{◌≡◌, ℕ, suc, ◌+◌, ◌-◌, ◌*◌, ◌/◌, List};
+ghost use Rattle.std.specs.Prelude.{◌≡◌, ℕ, suc, ◌+◌, ◌-◌, ◌*◌, ◌/◌, ◌<◌, List};
 ghost use Rattle.meaning.specs.Words.{smaller};
 ghost use Rattle.meaning.specs.Screen.{at, goes_up, goes_down, goes_to, region, save, restore};
 ghost use Rattle.terminal.specs.Terms.{term_on};
@@ -7,40 +7,37 @@ ghost use Rattle.terminal.specs.Terms.{term_on};
 use crate::state::{Cursor, Kept, Terminal};
 
 impl Terminal {
+    // To a place on the screen; a pending wrap is over.
+    pub(crate) fn move_to(&mut self, row: usize, col: usize)
+        requires { (row < self.old.size.high) × (col < self.old.size.wide) }
+        ensures { (xs a : List ℕ) → term_on self.new xs a ≡ at (term_on self.old xs a) row col }
+    {
+        self.cursor = Cursor {
+            row,
+            col,
+            pending: false,
+        };
+    }
+
     // BS
     pub(crate) fn backspace(&mut self)
         ensures { (xs a : List ℕ) → term_on self.new xs a ≡ at (term_on self.old xs a) self.old.cursor.row (self.old.cursor.col - 1) }
     {
-        let Cursor { row, col, .. } = self.cursor;
-        self.cursor = Cursor {
-            row,
-            col: col.saturating_sub(1),
-            pending: false,
-        };
+        self.cursor_back(1);
     }
 
     // HT
     pub(crate) fn horizontal_tab(&mut self)
         ensures { (xs a : List ℕ) → term_on self.new xs a ≡ at (term_on self.old xs a) self.old.cursor.row (smaller (self.old.size.wide - 1) (8 * suc (self.old.cursor.col / 8))) }
     {
-        let Cursor { row, col, .. } = self.cursor;
-        let next = 8 * (col / 8 + 1);
-        self.cursor = Cursor {
-            row,
-            col: next.min(self.size.wide - 1),
-            pending: false,
-        };
+        self.cursor_column(8 * (self.cursor.col / 8 + 1));
     }
 
     // CR
     pub(crate) fn carriage_return(&mut self)
         ensures { (xs a : List ℕ) → term_on self.new xs a ≡ at (term_on self.old xs a) self.old.cursor.row 0 }
     {
-        self.cursor = Cursor {
-            row: self.cursor.row,
-            col: 0,
-            pending: false,
-        };
+        self.move_to(self.cursor.row, 0);
     }
 
     // CUU
@@ -49,12 +46,7 @@ impl Terminal {
     {
         let Cursor { row, col, .. } = self.cursor;
         let limit = if self.top <= row { self.top } else { 0 };
-        let to = if k < row - limit { row - k } else { limit };
-        self.cursor = Cursor {
-            row: to,
-            col,
-            pending: false,
-        };
+        self.move_to(row.saturating_sub(k).max(limit), col);
     }
 
     // CUD
@@ -67,26 +59,14 @@ impl Terminal {
         } else {
             self.size.high - 1
         };
-        let to = if k < limit - row { row + k } else { limit };
-        self.cursor = Cursor {
-            row: to,
-            col,
-            pending: false,
-        };
+        self.move_to(row.saturating_add(k).min(limit), col);
     }
 
     // CUF
     pub(crate) fn cursor_forward(&mut self, k: usize)
         ensures { (xs a : List ℕ) → term_on self.new xs a ≡ at (term_on self.old xs a) self.old.cursor.row (smaller (self.old.size.wide - 1) (self.old.cursor.col + k)) }
     {
-        let Cursor { row, col, .. } = self.cursor;
-        let last = self.size.wide - 1;
-        let to = if k < last - col { col + k } else { last };
-        self.cursor = Cursor {
-            row,
-            col: to,
-            pending: false,
-        };
+        self.cursor_column(self.cursor.col.saturating_add(k));
     }
 
     // CUB
@@ -94,11 +74,7 @@ impl Terminal {
         ensures { (xs a : List ℕ) → term_on self.new xs a ≡ at (term_on self.old xs a) self.old.cursor.row (self.old.cursor.col - k) }
     {
         let Cursor { row, col, .. } = self.cursor;
-        self.cursor = Cursor {
-            row,
-            col: col.saturating_sub(k),
-            pending: false,
-        };
+        self.move_to(row, col.saturating_sub(k));
     }
 
     // CNL
@@ -121,32 +97,19 @@ impl Terminal {
     pub(crate) fn cursor_column(&mut self, col: usize)
         ensures { (xs a : List ℕ) → term_on self.new xs a ≡ at (term_on self.old xs a) self.old.cursor.row (smaller (self.old.size.wide - 1) col) }
     {
-        self.cursor = Cursor {
-            row: self.cursor.row,
-            col: col.min(self.size.wide - 1),
-            pending: false,
-        };
+        self.move_to(self.cursor.row, col.min(self.size.wide - 1));
     }
 
     // CUP, row and column counted from 0
     pub(crate) fn cursor_position(&mut self, r: usize, c: usize)
         ensures { (xs a : List ℕ) → term_on self.new xs a ≡ goes_to (term_on self.old xs a) r c }
     {
-        let col = c.min(self.size.wide - 1);
         let row = if self.modes.origin {
-            if r < self.bottom - self.top {
-                self.top + r
-            } else {
-                self.bottom
-            }
+            self.top.saturating_add(r).min(self.bottom)
         } else {
             r.min(self.size.high - 1)
         };
-        self.cursor = Cursor {
-            row,
-            col,
-            pending: false,
-        };
+        self.move_to(row, c.min(self.size.wide - 1));
     }
 
     // DECSTBM, rows counted from 1, the last 0 for the screen's last
@@ -188,11 +151,7 @@ impl Terminal {
             rendition,
             origin,
         } = self.kept;
-        self.cursor = Cursor {
-            row: row.min(self.size.high - 1),
-            col: col.min(self.size.wide - 1),
-            pending: false,
-        };
+        self.move_to(row.min(self.size.high - 1), col.min(self.size.wide - 1));
         self.rendition = rendition;
         self.modes.origin = origin;
     }

@@ -1,10 +1,35 @@
 // Control functions that change cells within rows: printing, inserting, deleting, erasing. The answers stay, whatever they are.
-ghost use Rattle.std.specs.Prelude.{◌≡◌, ℕ, ◌+◌, ◌*◌, ◌<◌, List, length};
+ghost use Rattle.std.specs.Prelude.{◌≡◌, ℕ, ◌+◌, ◌*◌, ◌<◌, List, length, MatchOption};
 ghost use Rattle.meaning.specs.Screen.{change_row, opened, closed, wiped, wipe_row, wipe_all};
+ghost use Rattle.terminal.specs.Extents.{number_of};
 ghost use Rattle.terminal.specs.Terms.{term_on};
 
 use crate::state::{Cursor, Terminal};
 use grid::{line, rows};
+
+// What of a line (EL) or of a display (ED) is erased.
+#[derive(Clone, Copy, PartialEq, Eq)]
+pub(crate) enum Extent {
+    // From the cursor on.
+    ToEnd,
+    // Up to the cursor, and with it.
+    ToStart,
+    All,
+}
+
+impl Extent {
+    // By the parameter of EL or ED; none if that is no such number.
+    pub(crate) fn of(number: usize) -> Option<Extent>
+        ensures { MatchOption result (2 < number) (λ e. number ≡ number_of e) }
+    {
+        match number {
+            0 => Some(Extent::ToEnd),
+            1 => Some(Extent::ToStart),
+            2 => Some(Extent::All),
+            _ => None,
+        }
+    }
+}
 
 impl Terminal {
     // ICH
@@ -34,38 +59,36 @@ impl Terminal {
     }
 
     // EL
-    pub(crate) fn erase_in_line(&self, cells: &mut [u64], part: usize)
+    pub(crate) fn erase_in_line(&self, cells: &mut [u64], part: Extent)
         requires { length cells.old ≡ self.now.size.high * self.now.size.wide }
-        ensures { (a : List ℕ) → term_on self.now cells.new a ≡ wipe_row (term_on self.now cells.old a) part }
+        ensures { (a : List ℕ) → term_on self.now cells.new a ≡ wipe_row (term_on self.now cells.old a) (number_of part) }
     {
         let Cursor { row, col, .. } = self.cursor;
         match part {
-            0 => line::erase(cells, self.size, row, col, self.size.wide),
-            1 => line::erase(cells, self.size, row, 0, col + 1),
-            2 => line::erase(cells, self.size, row, 0, self.size.wide),
-            _ => false,
+            Extent::ToEnd => line::erase(cells, self.size, row, col, self.size.wide),
+            Extent::ToStart => line::erase(cells, self.size, row, 0, col + 1),
+            Extent::All => line::erase(cells, self.size, row, 0, self.size.wide),
         };
     }
 
     // ED
-    pub(crate) fn erase_in_display(&self, cells: &mut [u64], part: usize)
+    pub(crate) fn erase_in_display(&self, cells: &mut [u64], part: Extent)
         requires { length cells.old ≡ self.now.size.high * self.now.size.wide }
-        ensures { (a : List ℕ) → term_on self.now cells.new a ≡ wipe_all (term_on self.now cells.old a) part }
+        ensures { (a : List ℕ) → term_on self.now cells.new a ≡ wipe_all (term_on self.now cells.old a) (number_of part) }
     {
         let row = self.cursor.row;
         match part {
-            0 => {
-                self.erase_in_line(cells, 0);
+            Extent::ToEnd => {
+                self.erase_in_line(cells, part);
                 rows::erase_rows(cells, self.size, row + 1, self.size.high);
             }
-            1 => {
-                self.erase_in_line(cells, 1);
+            Extent::ToStart => {
+                self.erase_in_line(cells, part);
                 rows::erase_rows(cells, self.size, 0, row);
             }
-            2 => {
+            Extent::All => {
                 rows::erase_rows(cells, self.size, 0, self.size.high);
             }
-            _ => {}
         }
     }
 }

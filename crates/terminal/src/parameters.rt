@@ -36,10 +36,7 @@ impl Parameters {
         ensures { (numbers_of result ≡ numbers_of self) × (begun_of result.begun ≡ add_digit (begun_of self.begun) d) }
     {
         let Parameters { list, count, begun } = self;
-        let v = match begun {
-            None => d as u16,
-            Some(n) => (10 * n as u32 + d as u32).min(9999) as u16,
-        };
+        let v = (10 * begun.unwrap_or(0) as u32 + d as u32).min(9999) as u16;
         Parameters {
             list,
             count,
@@ -53,36 +50,24 @@ impl Parameters {
     {
         let Parameters {
             mut list,
-            count,
+            mut count,
             begun,
         } = self;
-        let v = match begun {
-            None => 0,
-            Some(n) => n,
-        };
         if count < 16 {
-            list[count] = v;
-            Parameters {
-                list,
-                count: count + 1,
-                begun: None,
-            }
-        } else {
-            Parameters {
-                list,
-                count,
-                begun: None,
-            }
+            list[count] = begun.unwrap_or(0);
+            count += 1;
+        }
+        Parameters {
+            list,
+            count,
+            begun: None,
         }
     }
 
     pub(crate) fn is_empty(self) -> bool
         ensures { result ≡ (none_of (numbers_of self) && none_of (begun_of self.begun)) }
     {
-        match self.begun {
-            None => self.count == 0,
-            Some(_) => false,
-        }
+        self.begun.is_none() && self.count == 0
     }
 
     // All of them, at the final byte.

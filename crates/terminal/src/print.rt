@@ -1,6 +1,6 @@
-// Printable characters, and a full reset.
+// Printable characters.
 ghost use Rattle.std.specs.Prelude.{◌≡◌, ℕ, ◌*◌, List, length};
-ghost use Rattle.meaning.specs.Screen.{Term, at, row_on, put_sign, step_right, printed, fresh, with_answer};
+ghost use Rattle.meaning.specs.Screen.{put_sign, step_right, printed};
 ghost use Rattle.terminal.specs.Terms.{term_on};
 
 use crate::state::{Cursor, Terminal};
@@ -8,17 +8,6 @@ use grid::cell::Glyph;
 use grid::line;
 
 impl Terminal {
-    // A pending wrap is done: to the beginning of the next row.
-    fn wrap(&mut self, cells: &mut [u64])
-        requires { length cells.old ≡ self.old.size.high * self.old.size.wide }
-        ensures term { (a : List ℕ) → term_on self.new cells.new a ≡ at (row_on (term_on self.old cells.old a)) (row_on (term_on self.old cells.old a)).row 0 }
-        ensures size { self.new.size ≡ self.old.size }
-    {
-        self.index(cells);
-        self.cursor.col = 0;
-        self.cursor.pending = false;
-    }
-
     // A character at the cursor, which stays.
     fn put(&self, cells: &mut [u64], sign: u8)
         requires { length cells.old ≡ self.now.size.high * self.now.size.wide }
@@ -41,11 +30,7 @@ impl Terminal {
     {
         let Cursor { row, col, .. } = self.cursor;
         if col + 1 < self.size.wide {
-            self.cursor = Cursor {
-                row,
-                col: col + 1,
-                pending: false,
-            };
+            self.move_to(row, col + 1);
         } else {
             self.cursor.pending = self.modes.autowrap;
         }
@@ -56,7 +41,7 @@ impl Terminal {
         ensures { (a : List ℕ) → term_on self.new cells.new a ≡ printed (term_on self.old cells.old a) sign }
     {
         if self.cursor.pending {
-            self.wrap(cells);
+            self.new_line(cells);
         }
         self.put(cells, sign);
         self.advance();

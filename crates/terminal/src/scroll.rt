@@ -1,9 +1,9 @@
 // Control functions that move rows of cells. The answers stay, whatever they are.
 ghost use Rattle.std.specs.Prelude.{◌≡◌, ℕ, ◌*◌, List, length};
-ghost use Rattle.meaning.specs.Screen.{row_on, row_back, up_by, down_by, lines_in, lines_out};
+ghost use Rattle.meaning.specs.Screen.{at, row_on, row_back, up_by, down_by, lines_in, lines_out};
 ghost use Rattle.terminal.specs.Terms.{term_on};
 
-use crate::state::{Cursor, Terminal};
+use crate::state::Terminal;
 use grid::rows;
 
 impl Terminal {
@@ -37,6 +37,17 @@ impl Terminal {
         }
     }
 
+    // NEL, and a pending wrap: to the beginning of the next row.
+    pub(crate) fn new_line(&mut self, cells: &mut [u64])
+        requires { length cells.old ≡ self.old.size.high * self.old.size.wide }
+        ensures term { (a : List ℕ) → term_on self.new cells.new a ≡ at (row_on (term_on self.old cells.old a)) (row_on (term_on self.old cells.old a)).row 0 }
+        ensures size { self.new.size ≡ self.old.size }
+    {
+        self.index(cells);
+        self.cursor.col = 0;
+        self.cursor.pending = false;
+    }
+
     // RI
     pub(crate) fn reverse_index(&mut self, cells: &mut [u64])
         requires { length cells.old ≡ self.old.size.high * self.old.size.wide }
@@ -58,11 +69,7 @@ impl Terminal {
         let row = self.cursor.row;
         if self.top <= row && row <= self.bottom {
             rows::scroll_down(cells, self.size, row, self.bottom, k);
-            self.cursor = Cursor {
-                row,
-                col: 0,
-                pending: false,
-            };
+            self.move_to(row, 0);
         }
     }
 
@@ -74,11 +81,7 @@ impl Terminal {
         let row = self.cursor.row;
         if self.top <= row && row <= self.bottom {
             rows::scroll_up(cells, self.size, row, self.bottom, k);
-            self.cursor = Cursor {
-                row,
-                col: 0,
-                pending: false,
-            };
+            self.move_to(row, 0);
         }
     }
 }

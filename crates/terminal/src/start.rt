@@ -13,10 +13,12 @@ use grid::resize::resize;
 use grid::rows;
 use grid::size::Size;
 
-const PLAIN: Rendition = Rendition {
-    marks: 0,
-    fore: 9,
-    back: 9,
+// What DECRC finds where DECSC has kept nothing.
+const NOTHING_KEPT: Kept = Kept {
+    row: 0,
+    col: 0,
+    rendition: Rendition::PLAIN,
+    origin: false,
 };
 
 impl Terminal {
@@ -31,7 +33,7 @@ impl Terminal {
                 col: 0,
                 pending: false,
             },
-            rendition: PLAIN,
+            rendition: Rendition::PLAIN,
             top: 0,
             bottom: size.high - 1,
             modes: Modes {
@@ -40,12 +42,7 @@ impl Terminal {
                 origin: false,
                 visible: true,
             },
-            kept: Kept {
-                row: 0,
-                col: 0,
-                rendition: PLAIN,
-                origin: false,
-            },
+            kept: NOTHING_KEPT,
             parser: Parser::Ground,
         }
     }
@@ -92,17 +89,10 @@ impl Terminal {
             top: 0,
             bottom: size.high - 1,
             modes: Modes {
-                insert: self.modes.insert,
-                autowrap: self.modes.autowrap,
                 origin: false,
-                visible: self.modes.visible,
+                ..self.modes
             },
-            kept: Kept {
-                row: 0,
-                col: 0,
-                rendition: PLAIN,
-                origin: false,
-            },
+            kept: NOTHING_KEPT,
             parser: self.parser,
         };
         true

@@ -30,6 +30,7 @@ pub struct Kept {
 }
 
 // The parameters of a control sequence: those that are whole, and the one that has begun.
+// An array and a count, and no vector, since a Terminal is Copy and lies in fixed memory.
 #[derive(Clone, Copy)]
 pub struct Parameters {
     pub list: [u16; 16],

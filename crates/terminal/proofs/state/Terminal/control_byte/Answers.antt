@@ -1,22 +1,19 @@
-use Rattle.std.proofs.Common.{sym, ap, ◌∙◌, inl, inr, arith}
+use Rattle.std.proofs.Common.{sym, ap, ◌∙◌, arith}
 use Rattle.meaning.specs.Screen.{with_reading}
 use Rattle.terminal.specs.Terms.{term_on}
 use Rattle.terminal.proofs.Lows.{low_control, low_string, low_escape, low_cancel}
-use Rattle.terminal.proofs.state.Terminal.low_byte.Goals as goal
+use Rattle.terminal.proofs.state.Terminal.control_byte.Goals as goal
 
 pub returns-in-27 : goal.returns-in-27
 returns-in-27 c = λ a. sym (low_escape (term_on c.args.self.now c.args.cells.now a) c.args.b (sym c.if-in_string.ensures) c.in-27.is)
 
 pub returns-in-24 : goal.returns-in-24
-returns-in-24 c = λ a. sym (low_cancel (term_on c.args.self.now c.args.cells.now a) c.args.b (sym c.if-in_string.ensures) (inl c.in-24.is))
-
-pub returns-in-26 : goal.returns-in-26
-returns-in-26 c = λ a. sym (low_cancel (term_on c.args.self.now c.args.cells.now a) c.args.b (sym c.if-in_string.ensures) (inr c.in-26.is))
+returns-in-24 c = λ a. sym (low_cancel (term_on c.args.self.now c.args.cells.now a) c.args.b (sym c.if-in_string.ensures) c.in-24.is)
 
 pub returns-in_default : goal.returns-in_default
 returns-in_default c = λ a.
     c.control_character.ensures a
-    ∙ sym (low_control (term_on c.args.self.now c.args.cells.now a) c.args.b (sym c.if-in_string.ensures) (omega arith) (omega arith) (omega arith))
+    ∙ sym (low_control (term_on c.args.self.now c.args.cells.now a) c.args.b (sym c.if-in_string.ensures) (grind arith) (grind arith) (grind arith))
 
 pub returns-then-in_string : goal.returns-then-in_string
 returns-then-in_string c = λ a.
