@@ -1,6 +1,7 @@
 -- The picture of one window with one pane: the pane's rows brought to the room's size, above the status line.
-use Rattle.std.proofs.Common.{◌≡◌, ℕ, zero, suc, ◌+◌, ◌-◌, ◌*◌, ◌<◌, ◌≤◌, Bool, true, List, [], ◌∷◌, ◌++◌, map, length, take, replicate, sym, refl, ap, ◌∙◌, subst, append_assoc, le_of_suc-le-suc, not-suc-le-zero, suc-mul, arith, rules}
-use Rattle.std.proofs.lemmas.List.{map-append, take-map, length-map, length-take, length-append, length-replicate, take_all, set_at, same_lists, places}
+use Rattle.std.proofs.Common.{◌≡◌, add-one, ℕ, zero, suc, ◌+◌, ◌-◌, ◌*◌, ◌<◌, ◌≤◌, Bool, true, List, [], ◌∷◌, ◌++◌, map, length, take, sym, refl, ap, ◌∙◌, subst, append_assoc, le_of_suc-le-suc, not-suc-le-zero, suc-mul, arith, rules}
+use Rattle.layout.proofs.Signs.{filled_up}
+use Rattle.std.proofs.lemmas.List.{drop_at, replicate-append-replicate, map-append, take-map, length-map, length-take, length-append, length-replicate, take_all, set_at, same_lists, places}
 use Rattle.std.proofs.lemmas.Bool.{eq-eqb, and_from}
 use Rattle.meaning.specs.Words.{so_many, put_at}
 use Rattle.meaning.specs.Screen.{Cell, Term, blank_row, row_at, fitted_row}
@@ -14,8 +15,7 @@ use Rattle.grid.proofs.Pieces.{pieces_append}
 use Rattle.layout.specs.Window.{one_pane, status_row, Pictured}
 
 row_mid : (pre : Rows) (x : List Cell) (post : Rows) → row_at (pre ++ (x ∷ post)) (length pre) ≡ x
-row_mid [] x post = refl
-row_mid (y ∷ pre) x post = row_mid pre x post
+row_mid pre x post = rw (drop_at pre (x ∷ post) (length pre) refl)
 
 -- rows put over the first of n rows that are all b
 put_rows_over : (b : List Cell) (n : ℕ) (cs pre post : Rows) → length cs ≤ n
@@ -44,20 +44,15 @@ cut_rows : (w : ℕ) (rs : Rows) → map (λ c. put_row 0 c (blank_row w)) (map 
 cut_rows w [] = refl
 cut_rows w (r ∷ rs) = rw (cut_row w r, cut_rows w rs)
 
-filled_below : {A : Type 0} (h n : ℕ) (fs : List A) (b : A) → n ≡ length (take h fs) → take h fs ++ replicate (h - n) b ≡ take h (fs ++ replicate h b)
-filled_below h n fs b e = same_lists _ _ (search (rules, places)) (λ k d h. grind (arith, places))
-
 -- the pane cut to h rows of w columns, on blank rows
 cut_fitted : (w h : ℕ) (rs : Rows)
     → map (λ c. put_row 0 c (blank_row w)) (map (take w) (take h rs)) ++ so_many (h - length (map (take w) (take h rs))) (blank_row w) ≡ rows_fitted w h 0 rs
 cut_fitted w h rs =
-    let n : length (map (take w) (take h rs)) ≡ length (take h (map (fitted_row w) rs)) = simp (length-map, length-take) in
-    let f : map (λ c. put_row 0 c (blank_row w)) (map (take w) (take h rs)) ≡ take h (map (fitted_row w) rs) = cut_rows w (take h rs) ∙ sym (take-map (fitted_row w) h rs) in
-    ap (λ (z : Rows). z ++ so_many (h - length (map (take w) (take h rs))) (blank_row w)) f ∙ filled_below h _ (map (fitted_row w) rs) (blank_row w) n
+    let n : h - length (map (take w) (take h rs)) ≡ h - length (map (fitted_row w) rs) = simp (length-map, length-take) (omega arith) in
+    rw (n, cut_rows w (take h rs), ← take-map) (filled_up h (map (fitted_row w) rs) (blank_row w))
 
 blanks_above : (b : List Cell) (h : ℕ) → so_many (suc h) b ≡ so_many h b ++ (b ∷ [])
-blanks_above b zero = refl
-blanks_above b (suc h) = ap (λ (z : Rows). b ∷ z) (blanks_above b h)
+blanks_above b h = sym (rw add-one at (replicate-append-replicate h 1 b))
 
 length_fitted : (w h : ℕ) (rs : Rows) → length (rows_fitted w h 0 rs) ≡ h
 length_fitted w h rs = simp (length-take, length-append, length-replicate) (omega arith)
