@@ -1,5 +1,5 @@
 -- The picture of one window with one pane: the pane's rows brought to the room's size, above the status line.
-use Rattle.std.proofs.Common.{◌≡◌, add-one, ℕ, zero, suc, ◌+◌, ◌-◌, ◌*◌, ◌<◌, ◌≤◌, Bool, true, List, [], ◌∷◌, ◌++◌, map, length, take, sym, refl, ap, ◌∙◌, subst, append_assoc, le_of_suc-le-suc, not-suc-le-zero, suc-mul, arith, rules}
+use Rattle.std.proofs.Common.{◌≡◌, add-one, ℕ, zero, suc, ◌+◌, ◌-◌, ◌*◌, ◌<◌, ◌≤◌, Bool, true, List, [], ◌∷◌, ◌++◌, map, length, take, sym, refl, ap, ◌∙◌, append_assoc, le_of_suc-le-suc, not-suc-le-zero, suc-mul, arith, rules}
 use Rattle.layout.proofs.Signs.{filled_up}
 use Rattle.std.proofs.lemmas.List.{drop_at, replicate-append-replicate, map-append, take-map, length-map, length-take, length-append, length-replicate, take_all, set_at, same_lists, places}
 use Rattle.std.proofs.lemmas.Bool.{eq-eqb, and_from}
@@ -71,28 +71,22 @@ rows_put : (w h : ℕ) (rs : Rows) → put_rows 0 0 (map (take w) (take h rs)) (
 rows_put w h rs =
     let cs : Rows = map (take w) (take h rs) in
     let l : length cs ≤ h = simp (length-map, length-take) (omega arith) in
-    ap (put_rows 0 0 cs) (blanks_above (blank_row w) h)
-    ∙ (put_rows_over (blank_row w) h cs [] (blank_row w ∷ []) l
-    ∙ (sym (append_assoc (map (λ c. put_row 0 c (blank_row w)) cs) (so_many (h - length cs) (blank_row w)) (blank_row w ∷ []))
-    ∙ ap (λ (z : Rows). z ++ (blank_row w ∷ [])) (cut_fitted w h rs)))
+    let e : put_rows 0 0 cs (so_many h (blank_row w) ++ (blank_row w ∷ [])) ≡ map (λ c. put_row 0 c (blank_row w)) cs ++ (so_many (h - length cs) (blank_row w) ++ (blank_row w ∷ [])) =
+    put_rows_over (blank_row w) h cs [] (blank_row w ∷ []) l in
+    rw (blanks_above (blank_row w) h, e, ← append_assoc, cut_fitted w h rs)
 
 pub picture_is : (w h i n : ℕ) (t : Term) (p : Bool) → picture (one_pane w (suc h) i t n p) ≡ rows_fitted w h 0 t.rows ++ (status_row w ∷ [])
 picture_is w h i n t p =
     let k : suc h - 1 ≡ h = omega arith in
-    picture_parts w (suc h) i n t p
-    ∙ (ap (λ (z : ℕ). put_at (put_rows 0 0 (map (take w) (take z t.rows)) (so_many (suc h) (blank_row w))) z (last_row (one_pane w (suc h) i t n p))) k
-    ∙ (ap (λ (z : Rows). put_at z h (last_row (one_pane w (suc h) i t n p))) (rows_put w h t.rows)
-    ∙ (ap (put_at (rows_fitted w h 0 t.rows ++ (blank_row w ∷ [])) h) (last_row_one w (suc h) i n t p)
-    ∙ set_at (rows_fitted w h 0 t.rows) (blank_row w) [] (status_row w) h (length_fitted w h t.rows))))
+    picture_parts w (suc h) i n t p ∙ rw (last_row_one w (suc h) i n t p, k, rows_put w h t.rows) (set_at (rows_fitted w h 0 t.rows) (blank_row w) [] (status_row w) h (length_fitted w h t.rows))
 
 -- flat: the rows and one more
-rows_one_more : (w h : ℕ) (ys st : List ℕ) → length ys ≡ h * w → length st ≡ w → rows_of w (h + 1) (ys ++ st) ≡ rows_of w h ys ++ (map unpacked st ∷ [])
+rows_one_more : (w h : ℕ) (ys st : List ℕ) → length ys ≡ h * w → length st ≡ w → rows_of w (suc h) (ys ++ st) ≡ rows_of w h ys ++ (map unpacked st ∷ [])
 unfolding rows_of pieces
 rows_one_more w h ys st ly ls =
     let lm : length (map unpacked ys) ≡ h * w = length-map ys unpacked ∙ ly in
     let lt : take w (map unpacked st) ≡ map unpacked st = take_all w (map unpacked st) (let z = length-map st unpacked in omega arith) in
-    ap (pieces w (h + 1)) (map-append unpacked ys st)
-    ∙ (pieces_append w h 1 (map unpacked ys) (map unpacked st) lm ∙ ap (λ (z : List Cell). pieces w h (map unpacked ys) ++ (z ∷ [])) lt)
+    rw map-append ((rw add-one at (pieces_append w h 1 (map unpacked ys) (map unpacked st) lm)) ∙ rw lt)
 
 -- what stands there then is the picture
 picture_drawn : (w h : ℕ) (ys st : List ℕ) (rs : Rows) → 0 < h → length ys ≡ (h - 1) * w → length st ≡ w
@@ -101,13 +95,8 @@ picture_drawn : (w h : ℕ) (ys st : List ℕ) (rs : Rows) → 0 < h → length 
 picture_drawn w zero ys st rs hp ly ls er es i n t p et = absurd (not-suc-le-zero hp)
 picture_drawn w (suc h) ys st rs hp ly ls er es i n t p et =
     let k : suc h - 1 ≡ h = omega arith in
-    let s : suc h ≡ h + 1 = omega arith in
-    let ly₁ : length ys ≡ h * w = ly ∙ ap (λ (z : ℕ). z * w) k in
-    let er₁ : rows_of w h ys ≡ rows_fitted w h 0 t.rows = subst (λ (z : ℕ). rows_of w z ys ≡ rows_fitted w z 0 rs) k er ∙ ap (rows_fitted w h 0) (sym et) in
-    ap (λ (z : ℕ). rows_of w z (ys ++ st)) s
-    ∙ (rows_one_more w h ys st ly₁ ls
-    ∙ (ap (λ (z : Rows). z ++ (map unpacked st ∷ [])) er₁
-    ∙ (ap (λ (z : List Cell). rows_fitted w h 0 t.rows ++ (z ∷ [])) (es ∙ ap status_row ls) ∙ sym (picture_is w h i n t p))))
+    let above = rw k at er in
+    rw (rows_one_more w h ys st (rw k at ly) ls, above, es, ls, picture_is w h i n t p, et)
 
 -- a screen of one row has no room for a pane
 pub no_rows : (w h : ℕ) (xs : List ℕ) (rs : Rows) → h ≡ 0 → rows_of w h xs ≡ rows_fitted w h 0 rs
