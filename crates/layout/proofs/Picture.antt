@@ -26,15 +26,9 @@ put_rows_over b zero (c ∷ cs) pre post l = absurd (not-suc-le-zero l)
 put_rows_over b (suc n) (c ∷ cs) pre post l =
     let rest : Rows = so_many n b ++ post in
     let row : List Cell = put_row 0 c b in
-    let e : put_at (pre ++ (b ∷ rest)) (length pre) (put_row 0 c (row_at (pre ++ (b ∷ rest)) (length pre))) ≡ pre ++ (row ∷ rest) =
-    ap (λ (z : List Cell). put_at (pre ++ (b ∷ rest)) (length pre) (put_row 0 c z)) (row_mid pre b rest) ∙ set_at pre b rest row (length pre) refl in
     let m : suc (length pre) ≡ length (pre ++ (row ∷ [])) = (let z = length-append pre (row ∷ []) in omega arith) in
-    let a : pre ++ (row ∷ rest) ≡ (pre ++ (row ∷ [])) ++ rest = sym (append_assoc pre (row ∷ []) rest) in
     let k : n - length cs ≡ suc n - suc (length cs) = omega arith in
-    ap (λ (z : Rows). put_rows 0 (suc (length pre)) cs z) (e ∙ a)
-    ∙ (ap (λ (z : ℕ). put_rows 0 z cs ((pre ++ (row ∷ [])) ++ rest)) m
-    ∙ (put_rows_over b n cs (pre ++ (row ∷ [])) post (le_of_suc-le-suc l)
-    ∙ (append_assoc pre (row ∷ []) _ ∙ ap (λ (z : ℕ). pre ++ (row ∷ (map (λ c. put_row 0 c b) cs ++ (so_many z b ++ post)))) k)))
+    rw (row_mid pre b rest, set_at pre b rest row (length pre) refl, ← append_assoc pre (row ∷ []) rest, m, put_rows_over b n cs (pre ++ (row ∷ [])) post (le_of_suc-le-suc l), append_assoc pre (row ∷ []), k)
 
 -- a row that is cut and put over a blank one is that row fitted
 cut_row : (w : ℕ) (r : List Cell) → put_row 0 (take w r) (blank_row w) ≡ fitted_row w r
