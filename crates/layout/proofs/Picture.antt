@@ -1,6 +1,7 @@
 -- The picture of one window with one pane: the pane's rows brought to the room's size, above the status line.
-use Rattle.std.proofs.Common.{◌≡◌, ℕ, zero, suc, ◌+◌, ◌-◌, ◌*◌, ◌<◌, ◌≤◌, Bool, true, List, [], ◌∷◌, ◌++◌, map, length, take, replicate, sym, refl, ap, ◌∙◌, subst, append_assoc, le_of_suc-le-suc, not-suc-le-zero, suc-mul, arith, rules}
-use Rattle.std.proofs.lemmas.List.{map-append, take-map, length-map, length-take, length-append, length-replicate, take_all, set_at, same_lists, places}
+use Rattle.std.proofs.Common.{◌≡◌, add-one, ℕ, zero, suc, ◌+◌, ◌-◌, ◌*◌, ◌<◌, ◌≤◌, Bool, true, List, [], ◌∷◌, ◌++◌, map, length, take, sym, refl, ap, ◌∙◌, append_assoc, le_of_suc-le-suc, not-suc-le-zero, suc-mul, arith, rules}
+use Rattle.layout.proofs.Signs.{filled_up}
+use Rattle.std.proofs.lemmas.List.{drop_at, replicate-append-replicate, map-append, take-map, length-map, length-take, length-append, length-replicate, take_all, set_at, same_lists, places}
 use Rattle.std.proofs.lemmas.Bool.{eq-eqb, and_from}
 use Rattle.meaning.specs.Words.{so_many, put_at}
 use Rattle.meaning.specs.Screen.{Cell, Term, blank_row, row_at, fitted_row}
@@ -14,8 +15,7 @@ use Rattle.grid.proofs.Pieces.{pieces_append}
 use Rattle.layout.specs.Window.{one_pane, status_row, Pictured}
 
 row_mid : (pre : Rows) (x : List Cell) (post : Rows) → row_at (pre ++ (x ∷ post)) (length pre) ≡ x
-row_mid [] x post = refl
-row_mid (y ∷ pre) x post = row_mid pre x post
+row_mid pre x post = rw (drop_at pre (x ∷ post) (length pre) refl)
 
 -- rows put over the first of n rows that are all b
 put_rows_over : (b : List Cell) (n : ℕ) (cs pre post : Rows) → length cs ≤ n
@@ -26,15 +26,9 @@ put_rows_over b zero (c ∷ cs) pre post l = absurd (not-suc-le-zero l)
 put_rows_over b (suc n) (c ∷ cs) pre post l =
     let rest : Rows = so_many n b ++ post in
     let row : List Cell = put_row 0 c b in
-    let e : put_at (pre ++ (b ∷ rest)) (length pre) (put_row 0 c (row_at (pre ++ (b ∷ rest)) (length pre))) ≡ pre ++ (row ∷ rest) =
-    ap (λ (z : List Cell). put_at (pre ++ (b ∷ rest)) (length pre) (put_row 0 c z)) (row_mid pre b rest) ∙ set_at pre b rest row (length pre) refl in
     let m : suc (length pre) ≡ length (pre ++ (row ∷ [])) = (let z = length-append pre (row ∷ []) in omega arith) in
-    let a : pre ++ (row ∷ rest) ≡ (pre ++ (row ∷ [])) ++ rest = sym (append_assoc pre (row ∷ []) rest) in
     let k : n - length cs ≡ suc n - suc (length cs) = omega arith in
-    ap (λ (z : Rows). put_rows 0 (suc (length pre)) cs z) (e ∙ a)
-    ∙ (ap (λ (z : ℕ). put_rows 0 z cs ((pre ++ (row ∷ [])) ++ rest)) m
-    ∙ (put_rows_over b n cs (pre ++ (row ∷ [])) post (le_of_suc-le-suc l)
-    ∙ (append_assoc pre (row ∷ []) _ ∙ ap (λ (z : ℕ). pre ++ (row ∷ (map (λ c. put_row 0 c b) cs ++ (so_many z b ++ post)))) k)))
+    rw (row_mid pre b rest, set_at pre b rest row (length pre) refl, ← append_assoc pre (row ∷ []) rest, m, put_rows_over b n cs (pre ++ (row ∷ [])) post (le_of_suc-le-suc l), append_assoc pre (row ∷ []), k)
 
 -- a row that is cut and put over a blank one is that row fitted
 cut_row : (w : ℕ) (r : List Cell) → put_row 0 (take w r) (blank_row w) ≡ fitted_row w r
@@ -44,20 +38,15 @@ cut_rows : (w : ℕ) (rs : Rows) → map (λ c. put_row 0 c (blank_row w)) (map 
 cut_rows w [] = refl
 cut_rows w (r ∷ rs) = rw (cut_row w r, cut_rows w rs)
 
-filled_below : {A : Type 0} (h n : ℕ) (fs : List A) (b : A) → n ≡ length (take h fs) → take h fs ++ replicate (h - n) b ≡ take h (fs ++ replicate h b)
-filled_below h n fs b e = same_lists _ _ (search (rules, places)) (λ k d h. grind (arith, places))
-
 -- the pane cut to h rows of w columns, on blank rows
 cut_fitted : (w h : ℕ) (rs : Rows)
     → map (λ c. put_row 0 c (blank_row w)) (map (take w) (take h rs)) ++ so_many (h - length (map (take w) (take h rs))) (blank_row w) ≡ rows_fitted w h 0 rs
 cut_fitted w h rs =
-    let n : length (map (take w) (take h rs)) ≡ length (take h (map (fitted_row w) rs)) = simp (length-map, length-take) in
-    let f : map (λ c. put_row 0 c (blank_row w)) (map (take w) (take h rs)) ≡ take h (map (fitted_row w) rs) = cut_rows w (take h rs) ∙ sym (take-map (fitted_row w) h rs) in
-    ap (λ (z : Rows). z ++ so_many (h - length (map (take w) (take h rs))) (blank_row w)) f ∙ filled_below h _ (map (fitted_row w) rs) (blank_row w) n
+    let n : h - length (map (take w) (take h rs)) ≡ h - length (map (fitted_row w) rs) = simp (length-map, length-take) (omega arith) in
+    rw (n, cut_rows w (take h rs), ← take-map) (filled_up h (map (fitted_row w) rs) (blank_row w))
 
 blanks_above : (b : List Cell) (h : ℕ) → so_many (suc h) b ≡ so_many h b ++ (b ∷ [])
-blanks_above b zero = refl
-blanks_above b (suc h) = ap (λ (z : Rows). b ∷ z) (blanks_above b h)
+blanks_above b h = sym (rw add-one at (replicate-append-replicate h 1 b))
 
 length_fitted : (w h : ℕ) (rs : Rows) → length (rows_fitted w h 0 rs) ≡ h
 length_fitted w h rs = simp (length-take, length-append, length-replicate) (omega arith)
@@ -76,28 +65,22 @@ rows_put : (w h : ℕ) (rs : Rows) → put_rows 0 0 (map (take w) (take h rs)) (
 rows_put w h rs =
     let cs : Rows = map (take w) (take h rs) in
     let l : length cs ≤ h = simp (length-map, length-take) (omega arith) in
-    ap (put_rows 0 0 cs) (blanks_above (blank_row w) h)
-    ∙ (put_rows_over (blank_row w) h cs [] (blank_row w ∷ []) l
-    ∙ (sym (append_assoc (map (λ c. put_row 0 c (blank_row w)) cs) (so_many (h - length cs) (blank_row w)) (blank_row w ∷ []))
-    ∙ ap (λ (z : Rows). z ++ (blank_row w ∷ [])) (cut_fitted w h rs)))
+    let e : put_rows 0 0 cs (so_many h (blank_row w) ++ (blank_row w ∷ [])) ≡ map (λ c. put_row 0 c (blank_row w)) cs ++ (so_many (h - length cs) (blank_row w) ++ (blank_row w ∷ [])) =
+    put_rows_over (blank_row w) h cs [] (blank_row w ∷ []) l in
+    rw (blanks_above (blank_row w) h, e, ← append_assoc, cut_fitted w h rs)
 
 pub picture_is : (w h i n : ℕ) (t : Term) (p : Bool) → picture (one_pane w (suc h) i t n p) ≡ rows_fitted w h 0 t.rows ++ (status_row w ∷ [])
 picture_is w h i n t p =
     let k : suc h - 1 ≡ h = omega arith in
-    picture_parts w (suc h) i n t p
-    ∙ (ap (λ (z : ℕ). put_at (put_rows 0 0 (map (take w) (take z t.rows)) (so_many (suc h) (blank_row w))) z (last_row (one_pane w (suc h) i t n p))) k
-    ∙ (ap (λ (z : Rows). put_at z h (last_row (one_pane w (suc h) i t n p))) (rows_put w h t.rows)
-    ∙ (ap (put_at (rows_fitted w h 0 t.rows ++ (blank_row w ∷ [])) h) (last_row_one w (suc h) i n t p)
-    ∙ set_at (rows_fitted w h 0 t.rows) (blank_row w) [] (status_row w) h (length_fitted w h t.rows))))
+    picture_parts w (suc h) i n t p ∙ rw (last_row_one w (suc h) i n t p, k, rows_put w h t.rows) (set_at (rows_fitted w h 0 t.rows) (blank_row w) [] (status_row w) h (length_fitted w h t.rows))
 
 -- flat: the rows and one more
-rows_one_more : (w h : ℕ) (ys st : List ℕ) → length ys ≡ h * w → length st ≡ w → rows_of w (h + 1) (ys ++ st) ≡ rows_of w h ys ++ (map unpacked st ∷ [])
+rows_one_more : (w h : ℕ) (ys st : List ℕ) → length ys ≡ h * w → length st ≡ w → rows_of w (suc h) (ys ++ st) ≡ rows_of w h ys ++ (map unpacked st ∷ [])
 unfolding rows_of pieces
 rows_one_more w h ys st ly ls =
     let lm : length (map unpacked ys) ≡ h * w = length-map ys unpacked ∙ ly in
     let lt : take w (map unpacked st) ≡ map unpacked st = take_all w (map unpacked st) (let z = length-map st unpacked in omega arith) in
-    ap (pieces w (h + 1)) (map-append unpacked ys st)
-    ∙ (pieces_append w h 1 (map unpacked ys) (map unpacked st) lm ∙ ap (λ (z : List Cell). pieces w h (map unpacked ys) ++ (z ∷ [])) lt)
+    rw map-append ((rw add-one at (pieces_append w h 1 (map unpacked ys) (map unpacked st) lm)) ∙ rw lt)
 
 -- what stands there then is the picture
 picture_drawn : (w h : ℕ) (ys st : List ℕ) (rs : Rows) → 0 < h → length ys ≡ (h - 1) * w → length st ≡ w
@@ -106,13 +89,8 @@ picture_drawn : (w h : ℕ) (ys st : List ℕ) (rs : Rows) → 0 < h → length 
 picture_drawn w zero ys st rs hp ly ls er es i n t p et = absurd (not-suc-le-zero hp)
 picture_drawn w (suc h) ys st rs hp ly ls er es i n t p et =
     let k : suc h - 1 ≡ h = omega arith in
-    let s : suc h ≡ h + 1 = omega arith in
-    let ly₁ : length ys ≡ h * w = ly ∙ ap (λ (z : ℕ). z * w) k in
-    let er₁ : rows_of w h ys ≡ rows_fitted w h 0 t.rows = subst (λ (z : ℕ). rows_of w z ys ≡ rows_fitted w z 0 rs) k er ∙ ap (rows_fitted w h 0) (sym et) in
-    ap (λ (z : ℕ). rows_of w z (ys ++ st)) s
-    ∙ (rows_one_more w h ys st ly₁ ls
-    ∙ (ap (λ (z : Rows). z ++ (map unpacked st ∷ [])) er₁
-    ∙ (ap (λ (z : List Cell). rows_fitted w h 0 t.rows ++ (z ∷ [])) (es ∙ ap status_row ls) ∙ sym (picture_is w h i n t p))))
+    let above = rw k at er in
+    rw (rows_one_more w h ys st (rw k at ly) ls, above, es, ls, picture_is w h i n t p, et)
 
 -- a screen of one row has no room for a pane
 pub no_rows : (w h : ℕ) (xs : List ℕ) (rs : Rows) → h ≡ 0 → rows_of w h xs ≡ rows_fitted w h 0 rs

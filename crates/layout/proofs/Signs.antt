@@ -1,14 +1,14 @@
 -- What drawing the status line leaves.
 use Rattle.std.proofs.Common.{◌≡◌, ℕ, ◌-◌, ◌<◌, min, get_or, List, [], ◌∷◌, ◌++◌, map, length, take, drop, replicate, sym, ap, ◌∙◌, arith, rules}
-use Rattle.std.proofs.lemmas.List.{length-map, get_or-map, map-append, take-map, drop-replicate, same_lists, places}
+use Rattle.std.proofs.lemmas.List.{take_min, length-map, get_or-map, map-append, take-map, drop-replicate, same_lists, places}
 use Rattle.meaning.specs.Picture.{turned}
 use Rattle.grid.specs.Cells.{unpacked}
 use Rattle.grid.proofs.Regions.{map_replicate}
 use Rattle.layout.specs.Window.{status_row}
 
 -- a list filled up with x to the length n, or cut to it
-filled_up : {A : Type 0} (n k : ℕ) (s : List A) (x : A) → k ≡ min n (length s) → take k s ++ replicate (n - k) x ≡ take n (s ++ replicate n x)
-filled_up n k s x e = same_lists _ _ (search (rules, places)) (λ k d h. grind (arith, places))
+pub filled_up : {A : Type 0} (n : ℕ) (s : List A) (x : A) → take n s ++ replicate (n - length s) x ≡ take n (s ++ replicate n x)
+filled_up n s x = same_lists _ _ (search (rules, places)) (λ k d h. grind (arith, places))
 
 pub each_turned : (xs ys : List ℕ) → length ys ≡ length xs → ((i : ℕ) → i < length xs → unpacked (get_or ys i 0) ≡ turned (get_or xs i 0)) → map unpacked ys ≡ map turned xs
 each_turned xs ys l f =
@@ -22,4 +22,5 @@ pub status_drawn : (a n k : ℕ) (ss fs ps : List ℕ) → unpacked a ≡ turned
 status_drawn a n k ss fs ps ea es ek ef ep =
     let front : map unpacked ps ≡ take k (turned 32 ∷ turned 48 ∷ turned 42 ∷ []) = ap (map unpacked) ep ∙ (sym (take-map unpacked k ss) ∙ ap (take k) es) in
     let back : map unpacked (drop k fs) ≡ replicate (n - k) (turned 32) = rw (ef, drop-replicate) (map_replicate unpacked (n - k) a ∙ ap (replicate (n - k)) ea) in
-    rw (map-append, front, back) (filled_up n k (turned 32 ∷ turned 48 ∷ turned 42 ∷ []) (turned 32) (omega arith))
+    let m : n - k ≡ n - 3 = omega arith in
+    rw (map-append, front, back, m, ek, take_min n (turned 32 ∷ turned 48 ∷ turned 42 ∷ [])) (filled_up n (turned 32 ∷ turned 48 ∷ turned 42 ∷ []) (turned 32))

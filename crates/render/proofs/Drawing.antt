@@ -1,5 +1,5 @@
 -- The loop over the cells: what is left to draw, from the state so far, gives the whole go.
-use Rattle.std.proofs.Common.{◌≡◌, ℕ, ◌+◌, ◌*◌, ◌/◌, ◌%◌, ◌<◌, ◌≤◌, Bool, true, false, ◌&&◌, eqb, ◌⊎◌, List, ◌++◌, length, get_or, take, drop, set, sym, refl, ap, ◌∙◌, inl, inr, mod-lt, div-lt_iff_lt-mul, arith}
+use Rattle.std.proofs.Common.{◌≡◌, ℕ, ◌+◌, ◌*◌, ◌/◌, ◌%◌, ◌<◌, ◌≤◌, Bool, true, false, ◌&&◌, eqb, ◌⊎◌, List, ◌++◌, length, get_or, take, drop, set, sym, refl, ap, ◌∙◌, inl, inr, arith}
 use Rattle.std.proofs.lemmas.Bool.Decides.{nat_tests}
 use Rattle.std.proofs.lemmas.List.{at_drop_more, at_drop_all, length-take-le, take-append-drop}
 use Rattle.std.proofs.lemmas.Bool.{eq-eqb, ne_eqb, le-leb, lt-leb}
@@ -13,12 +13,6 @@ use Rattle.render.specs.declared.pen.Pen.{Pen}
 
 abbrev pub state : List ℕ → Pen → ℕ → List ℕ → Go
 state screen pen len out = record { screen = screen; pen = pen; bytes = take len out }
-
--- a place within the screen
-pub place_within : (w h i : ℕ) → 0 < w → w ≤ 200 → h ≤ 60 → i < h * w → (i / w < 60) × (i % w < 200)
-place_within w h i z a b l =
-    let r : i / w < h = (div-lt_iff_lt-mul z).1 l in
-    let c = mod-lt i z in (omega arith, omega arith)
 
 -- one cell more
 pub goes_on : (w room i : ℕ) (xs : List ℕ) (s t : Go) → i < length xs → drawn_cell w room i (get_or xs i 0) s ≡ t →

@@ -16,15 +16,16 @@ pub fn draw(screen: &mut [u64], picture: &[u64], size: Size, pen: &mut Pen, out:
         return 0;
     }
     let mut sent = Buffer { bytes: out, len: 0 };
-    for (i, p) in picture.iter().enumerate() {
-        if screen[i] != *p && sent.len + 32 <= sent.bytes.len() {
+    // Of the two slices only the one that is read gives an iterator: a loop over both zipped, one of them written, is not covered by the check.
+    for (i, &p) in picture.iter().enumerate() {
+        if screen[i] != p && sent.len + 32 <= sent.bytes.len() {
             let place = Place {
                 row: i / size.wide,
                 col: i % size.wide,
             };
-            write_cell(&mut sent, *pen, place, *p);
-            *pen = pen.after(size.wide, place, *p);
-            screen[i] = *p;
+            write_cell(&mut sent, *pen, place, p);
+            *pen = pen.after(size.wide, place, p);
+            screen[i] = p;
         }
     }
     sent.len

@@ -39,7 +39,7 @@ fn close(out: &mut Buffer<'_>, pen: &mut Pen, cursor: Option<Place>)
     }
 }
 
-// For when nothing differs any more; no place is a hidden cursor.
+// For when nothing differs any more. A hidden cursor has no place.
 // Refuses with 0 where the cursor is to be seen outside the screen, or without room for 16 bytes.
 pub fn finish(pen: &mut Pen, size: Size, cursor: Option<Place>, out: &mut [u8]) -> usize
     ensures { let s = spot_from cursor in
