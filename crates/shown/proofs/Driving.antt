@@ -1,6 +1,6 @@
 -- The loop that feeds a terminal part by part: what is left, from the state so far, gives the whole.
 use Rattle.std.proofs.Common.{◌≡◌, ℕ, ◌+◌, ◌-◌, ◌*◌, ◌≤◌, Bool, true, false, List, [], ◌++◌, length, take, drop, Some, None, Ok, Err, Option, Result, sym, refl, ap, ◌∙◌, arith, MatchOption}
-use Rattle.std.proofs.lemmas.List.{drop-drop, drop_all, take-append-drop, length-take}
+use Rattle.std.proofs.lemmas.List.{nil_from_length}
 use Rattle.std.proofs.lemmas.Bool.{eq-eqb, le-leb}
 use Rattle.meaning.specs.Screen.{Term, fresh}
 use Rattle.meaning.specs.Bytes.{written}
@@ -17,56 +17,44 @@ use Rattle.shown.specs.declared.screen.Unwritten.{Unwritten}
 use Rattle.shown.specs.declared.screen.Unwritten.TheVariants.{WrongCells, NoMemory}
 use Rattle.shown.proofs.Alike.{Alike, alike_written}
 
--- the first k bytes have been written
-pub record Driving (t : Terminal) (cells bytes : List ℕ) (k : ℕ) (t₁ : Terminal) (cells₁ : List ℕ) : Type 0 where
-  pub term : unheard (written (term_on t₁ cells₁ []) (drop k bytes)) ≡ unheard (written (term_on t cells []) bytes)
+-- a terminal that has still to be fed the rest comes to where all bytes bring it
+pub record Driving (t : Terminal) (cells bytes : List ℕ) (t₁ : Terminal) (cells₁ rest : List ℕ) : Type 0 where
+  pub term : unheard (written (term_on t₁ cells₁ []) rest) ≡ unheard (written (term_on t cells []) bytes)
   pub wide : t₁.size.wide ≡ t.size.wide
   pub high : t₁.size.high ≡ t.size.high
-  pub within : k ≤ length bytes
 
-pub driving_none : (t : Terminal) (cells bytes : List ℕ) → Driving t cells bytes 0 t cells
-driving_none t cells bytes = record { term = refl; wide = refl; high = refl; within = omega arith }
+pub driving_none : (t : Terminal) (cells bytes rest : List ℕ) → rest ≡ bytes → Driving t cells bytes t cells rest
+driving_none t cells bytes rest e = record { term = rw e; wide = refl; high = refl }
 
-parted : (bytes : List ℕ) (k n : ℕ) → take (k + n - k) (drop k bytes) ++ drop (k + n) bytes ≡ drop k bytes
-parted bytes k n =
-    let e : k + n - k ≡ n = omega arith in
-    rw (e, ← drop-drop n k bytes) (take-append-drop n (drop k bytes))
+module _ {t t₁ : Terminal} {cells bytes cells₁ rest : List ℕ} (d : Driving t cells bytes t₁ cells₁ rest) where
+  driving_more : (part rest₁ out : List ℕ) (r : ℕ) (t₂ : Terminal) (cells₂ out₂ : List ℕ) → rest ≡ part ++ rest₁ → Fed t₁ cells₁ part out r t₂ cells₂ out₂ → Driving t cells bytes t₂ cells₂ rest₁
+  driving_more part rest₁ out r t₂ cells₂ out₂ e f =
+      let u = term_on t₁ cells₁ [] in
+      let a : Alike (term_on t₂ cells₂ []) (written u part) = record { same = ap unheard f.term } in
+      let w = alike_written (term_on t₂ cells₂ []) (written u part) rest₁ a in
+      let s = sym (in_parts u part rest₁) ∙ ap (written u) (sym e) in
+      record { term = w.same ∙ (ap unheard s ∙ d.term); wide = f.wide ∙ d.wide; high = f.high ∙ d.high }
 
-pub driving_more : (t : Terminal) (cells bytes : List ℕ) (k : ℕ) (t₁ : Terminal) (cells₁ : List ℕ) (n : ℕ) (out : List ℕ) (r : ℕ) (t₂ : Terminal) (cells₂ out₂ : List ℕ)
-    → Driving t cells bytes k t₁ cells₁ → k + n ≤ length bytes → Fed t₁ cells₁ (take (k + n - k) (drop k bytes)) out r t₂ cells₂ out₂ → Driving t cells bytes (k + n) t₂ cells₂
-driving_more t cells bytes k t₁ cells₁ n out r t₂ cells₂ out₂ d l f =
-    let u = term_on t₁ cells₁ [] in
-    let part = take (k + n - k) (drop k bytes) in
-    let a : Alike (term_on t₂ cells₂ []) (written u part) = record { same = ap unheard f.term } in
-    let w = alike_written (term_on t₂ cells₂ []) (written u part) (drop (k + n) bytes) a in
-    let s = sym (in_parts u part (drop (k + n) bytes)) ∙ ap (written u) (parted bytes k n) in
-    record { term = w.same ∙ (ap unheard s ∙ d.term); wide = f.wide ∙ d.wide; high = f.high ∙ d.high; within = l }
+  -- a part of at most 4,096 bytes can be fed
+  part_fits : (part out : List ℕ) → length cells₁ ≡ t.size.high * t.size.wide → length part ≤ 4096 → length out ≡ 40960 → can_feed t₁ cells₁ part out ≡ true
+  part_fits part out e l o =
+      let w = d.wide in
+      let h = d.high in
+      let f : length cells₁ ≡ t₁.size.high * t₁.size.wide = rw (h, w) e in
+      simp (eq-eqb _ _ f, le-leb (length part) 4096 l, le-leb (10 * length part) (length out) (omega arith))
 
--- a part of at most 4,096 bytes can be fed
-pub part_fits : (t : Terminal) (cells bytes : List ℕ) (k : ℕ) (t₁ : Terminal) (cells₁ : List ℕ) (n : ℕ) (out : List ℕ)
-    → Driving t cells bytes k t₁ cells₁ → length cells₁ ≡ t.size.high * t.size.wide → n ≤ 4096 → length out ≡ 40960
-    → can_feed t₁ cells₁ (take (k + n - k) (drop k bytes)) out ≡ true
-part_fits t cells bytes k t₁ cells₁ n out d e l o =
-    let w = d.wide in
-    let h = d.high in
-    let m : length (take (k + n - k) (drop k bytes)) ≤ n = simp length-take (omega arith) in
-    let f : length cells₁ ≡ t₁.size.high * t₁.size.wide = rw (h, w) e in
-    simp (eq-eqb _ _ f, le-leb (length (take (k + n - k) (drop k bytes))) 4096 (omega arith), le-leb (10 * length (take (k + n - k) (drop k bytes))) (length out) (omega arith))
+  -- and so it has been
+  pub driving_fed : (part rest₁ out : List ℕ) (r : Option ℕ) (t₂ : Terminal) (cells₂ out₂ : List ℕ) → rest ≡ part ++ rest₁ → length cells₁ ≡ t.size.high * t.size.wide → length part ≤ 4096 → length out ≡ 40960
+      → MatchOption r
+      ((can_feed t₁ cells₁ part out ≡ false) × (t₂ ≡ t₁) × (cells₂ ≡ cells₁) × (out₂ ≡ out))
+      (λ m. (can_feed t₁ cells₁ part out ≡ true) × Fed t₁ cells₁ part out m t₂ cells₂ out₂)
+      → Driving t cells bytes t₂ cells₂ rest₁
+  driving_fed part rest₁ out None t₂ cells₂ out₂ e l m o f = let c = part_fits part out l m o in let z : true ≡ false = sym c ∙ f.0 in cc
+  driving_fed part rest₁ out (Some r) t₂ cells₂ out₂ e l m o f = driving_more part rest₁ out r t₂ cells₂ out₂ e f.1
 
--- a part that can be fed has been
-pub driving_fed : (t : Terminal) (cells bytes : List ℕ) (k : ℕ) (t₁ : Terminal) (cells₁ : List ℕ) (n : ℕ) (out : List ℕ) (r : Option ℕ) (t₂ : Terminal) (cells₂ out₂ : List ℕ)
-    → Driving t cells bytes k t₁ cells₁ → k + n ≤ length bytes → can_feed t₁ cells₁ (take (k + n - k) (drop k bytes)) out ≡ true
-    → MatchOption r
-    ((can_feed t₁ cells₁ (take (k + n - k) (drop k bytes)) out ≡ false) × (t₂ ≡ t₁) × (cells₂ ≡ cells₁) × (out₂ ≡ out))
-    (λ m. (can_feed t₁ cells₁ (take (k + n - k) (drop k bytes)) out ≡ true) × Fed t₁ cells₁ (take (k + n - k) (drop k bytes)) out m t₂ cells₂ out₂)
-    → Driving t cells bytes (k + n) t₂ cells₂
-driving_fed t cells bytes k t₁ cells₁ n out None t₂ cells₂ out₂ d l c f = let e = sym c ∙ f.0 in let z : ◌≡◌ {A = ℕ} 0 1 = cc in absurd (omega arith)
-driving_fed t cells bytes k t₁ cells₁ n out (Some r) t₂ cells₂ out₂ d l c f = driving_more t cells bytes k t₁ cells₁ n out r t₂ cells₂ out₂ d l f.1
-
-pub driving_all : (t : Terminal) (cells bytes : List ℕ) (k : ℕ) (t₁ : Terminal) (cells₁ : List ℕ) → Driving t cells bytes k t₁ cells₁ → length bytes ≤ k
-    → FedAll t cells bytes t₁ cells₁
+pub driving_all : {t t₁ : Terminal} {cells bytes cells₁ rest : List ℕ} → Driving t cells bytes t₁ cells₁ rest → length rest ≡ 0 → FedAll t cells bytes t₁ cells₁
 unfolding written
-driving_all t cells bytes k t₁ cells₁ d l = record { term = (let e = d.term in rw (drop_all k bytes l) at e); wide = d.wide; high = d.high }
+driving_all {t} {t₁} {cells} {bytes} {cells₁} {rest} d l = record { term = sym (ap (λ xs. unheard (written (term_on t₁ cells₁ []) xs)) (nil_from_length rest l)) ∙ d.term; wide = d.wide; high = d.high }
 
 -- a terminal as it comes up is fed, and its screen written out
 pub shows : (old : List ℕ) (size : Size) (cells bytes : List ℕ) (t : Terminal) (cells₁ : List ℕ) (f : Bool) (t₁ : Terminal) (cells₂ : List ℕ) (r : Result Unit Unwritten) (new : List ℕ)

@@ -1,14 +1,16 @@
 -- The text of a row, and of rows, as loops come to it.
-use Rattle.std.proofs.Common.{◌≡◌, ℕ, ◌+◌, ◌-◌, ◌*◌, ◌<◌, ◌≤◌, Bool, true, false, ◌&&◌, eqb, List, [], ◌∷◌, ◌++◌, map, length, get_or, take, drop, sym, refl, ap, ◌∙◌, append_assoc, append-nil, arith}
-use Rattle.std.proofs.lemmas.List.{map_more, map_push, length-map, length-take, take_all, take_more, take-map, drop-map}
+use Rattle.std.proofs.Common.{◌≡◌, ℕ, zero, suc, ◌+◌, ◌-◌, ◌*◌, ◌<◌, ◌≤◌, Bool, true, false, ◌&&◌, eqb, List, [], ◌∷◌, ◌++◌, map, length, get_or, take, drop, sym, refl, ap, ◌∙◌, append_assoc, append-nil, add-zero, suc-mul, arith, inl, inr, ◌≢◌}
+use Rattle.std.proofs.lemmas.List.{map_more, map_push, length-map, length-take, length-drop, length-append, take_all, take_at, take_more, take-map, drop-map, drop_at, drop-drop}
+use Rattle.std.proofs.Math.Nat.{eq-or-lt_of_le, lt_of_mul-lt-mul_right}
 use Rattle.std.proofs.lemmas.Bool.{ne_eqb}
 use Rattle.meaning.specs.Words.{pick, none_of, flat}
 use Rattle.meaning.specs.Screen.{Cell}
 use Rattle.grid.specs.Cells.{unpacked, rows_of}
 use Rattle.grid.proofs.Pieces.{getD_pieces}
 use Rattle.grid.proofs.Regions.{length_rows}
-use Rattle.output.specs.Added.{Added}
-use Rattle.output.proofs.Adding.{then}
+use Rattle.output.specs.Added.{Adds}
+use Rattle.output.specs.declared.Buffer.{Buffer}
+use Rattle.output.proofs.Adding.{both, room_left}
 use Rattle.shown.specs.Text.{shown_sign, row_text, row_line, rows_text}
 
 pub row_text_blank : (cs : List Cell) (c : Cell) → c.sign ≡ 32 → row_text (cs ++ c ∷ []) ≡ row_text cs
@@ -50,6 +52,23 @@ pub end_none : (xs : List ℕ) (n : ℕ) → n ≤ 0 → row_text (map unpacked 
 unfolding row_text
 end_none xs n l = let e : n ≡ 0 = omega arith in rw e
 
+-- blanks behind the first n cells may be left out
+blanks : (xs : List ℕ) (n d : ℕ) → n + d ≤ length xs → ((k : ℕ) → n ≤ k → k < length xs → (unpacked (get_or xs k 0)).sign ≡ 32)
+    → row_text (map unpacked (take (n + d) xs)) ≡ row_text (map unpacked (take n xs))
+blanks xs n zero l h = rw add-zero
+blanks xs n (suc d) l h =
+    let s : n + suc d - 1 ≡ n + d = omega arith in
+    (rw s at (end_less xs (n + suc d) (omega arith) l (h (n + suc d - 1) (omega arith) (omega arith)))) ∙ blanks xs n d (omega arith) h
+
+-- a row ends behind its last cell that is no blank
+pub text_ends : (xs : List ℕ) (n : ℕ) → n ≤ length xs → ((k : ℕ) → n ≤ k → k < length xs → (unpacked (get_or xs k 0)).sign ≡ 32)
+    → (0 < n → (unpacked (get_or xs (n - 1) 0)).sign ≢ 32) → row_text (map unpacked xs) ≡ map shown_sign (map unpacked (take n xs))
+text_ends xs n l h last =
+    let e : n + (length xs - n) ≡ length xs = omega arith in
+    let b = rw (e, take_all (length xs) xs (omega arith)) at (blanks xs n (length xs - n) (omega arith) h) in
+    let z : 0 ≤ n = omega arith in
+    b ∙ elim (eq-or-lt_of_le z) [ inl e₀ ↦ end_none xs n (omega arith) | inr p ↦ end_here xs n p l (last p) ]
+
 -- the bytes of cells one by one
 abbrev pub signs : List ℕ → List ℕ
 signs xs = map shown_sign (map unpacked xs)
@@ -57,47 +76,65 @@ signs xs = map shown_sign (map unpacked xs)
 pub length_signs : (xs : List ℕ) → length (signs xs) ≡ length xs
 length_signs xs = length-map (map unpacked xs) shown_sign ∙ length-map xs unpacked
 
-pub signs_room : {n at : ℕ} {old mid : List ℕ} (xs : List ℕ) (i : ℕ) → Added n old at mid (signs (take i xs)) → i ≤ length xs → at ≡ n + i
-signs_room {n} {at} {old} {mid} xs i a l =
-    let f = a.far in
-    let e : length (signs (take i xs)) ≡ i = length_signs (take i xs) ∙ (length-take i xs ∙ omega arith) in omega arith
+pub signs_room : {x y : Buffer} (xs : List ℕ) (i : ℕ) → Adds x y (signs (take i xs)) → x.len + length xs ≤ length x.bytes.now → i < length xs → y.len < length y.bytes.now
+signs_room xs i a l h =
+    let e : length (signs (take i xs)) ≡ i = length_signs (take i xs) ∙ (length-take i xs ∙ omega arith) in
+    let r = room_left 1 a (omega arith) in omega arith
 
-pub signs_more : {n at r b : ℕ} {old mid new : List ℕ} (xs : List ℕ) (i : ℕ) → Added n old at mid (signs (take i xs)) → i < length xs → b ≡ shown_sign (unpacked (get_or xs i 0))
-    → Added at mid r new (b ∷ []) → Added n old r new (signs (take (i + 1) xs))
-signs_more {n} {at} {r} {b} {old} {mid} {new} xs i p l e q =
+pub signs_more : {x y z : Buffer} {b : ℕ} (xs : List ℕ) (i : ℕ) → Adds x y (signs (take i xs)) → i < length xs → b ≡ shown_sign (unpacked (get_or xs i 0)) → Adds y z (b ∷ [])
+    → Adds x z (signs (take (i + 1) xs))
+signs_more {x} {y} {z} {b} xs i p l e q =
     let m : signs (take (i + 1) xs) ≡ signs (take i xs) ++ b ∷ [] = ap (map shown_sign) (map_more unpacked xs i 0 l) ∙ (map_push shown_sign (map unpacked (take i xs)) (unpacked (get_or xs i 0)) ∙ rw e) in
-    rw m (then p q)
+    rw m (both p q)
 
-pub signs_all : {n at : ℕ} {old mid : List ℕ} (xs : List ℕ) (i : ℕ) → Added n old at mid (signs (take i xs)) → length xs ≤ i → Added n old at mid (signs xs)
-signs_all {n} {at} {old} {mid} xs i a l = rw (take_all i xs l) at a
-
--- the end of a line
-pub row_added : {n at r : ℕ} {old mid new : List ℕ} (xs : List ℕ) (e : ℕ) → Added n old at mid (signs (take (e - 0) xs)) → row_text (map unpacked xs) ≡ signs (take e xs) → e ≤ length xs
-    → n + length xs + 1 ≤ length mid → (at < length mid → Added at mid r new (10 ∷ [])) → Added n old r new (row_line (map unpacked xs)) × (r ≤ n + length xs + 1)
-row_added {n} {at} {r} {old} {mid} {new} xs e p t l h q =
-    let s : e - 0 ≡ e = omega arith in
-    let p₁ = rw s at p in
-    let f = signs_room xs e p₁ l in
-    let q₁ = q (omega arith) in
-    (rw t (then p₁ q₁), (let g = q₁.far in omega arith))
+pub signs_end : {x y : Buffer} (xs : List ℕ) {n : ℕ} → Adds x y (signs (take n xs)) → n ≤ length xs → x.len + length xs + 1 ≤ length x.bytes.now → y.len < length y.bytes.now
+signs_end xs {n} a l h =
+    let e : length (signs (take n xs)) ≡ n = length_signs (take n xs) ∙ (length-take n xs ∙ omega arith) in
+    let r = room_left 1 a (omega arith) in omega arith
 
 flat_push : {A B : Type 0} (f : A → List B) (xs : List A) (x : A) → flat f (xs ++ x ∷ []) ≡ flat f xs ++ f x
 flat_push f [] x = append-nil (f x)
 flat_push f (y ∷ ys) x = ap (λ t. f y ++ t) (flat_push f ys x) ∙ sym (append_assoc (f y) (flat f ys) (f x))
 
 -- row k of a screen's cells
-pub row_part : (w h k : ℕ) (xs : List ℕ) → k < h → get_or (rows_of w h xs) k [] ≡ map unpacked (take (k * w + w - k * w) (drop (k * w) xs))
+row_part : (w h k : ℕ) (xs : List ℕ) → k < h → get_or (rows_of w h xs) k [] ≡ map unpacked (take w (drop (k * w) xs))
 unfolding rows_of
-row_part w h k xs l =
-    let e : k * w + w - k * w ≡ w = omega arith in
-    getD_pieces w h k (map unpacked xs) l ∙ rw (e, drop-map unpacked (k * w) xs, take-map unpacked w (drop (k * w) xs))
+row_part w h k xs l = getD_pieces w h k (map unpacked xs) l ∙ rw (drop-map unpacked (k * w) xs, take-map unpacked w (drop (k * w) xs))
 
-pub rows_more : {n at r : ℕ} {old mid new : List ℕ} (w h k : ℕ) (xs : List ℕ) → k < h → Added n old at mid (rows_text (take k (rows_of w h xs)))
-    → Added at mid r new (row_line (map unpacked (take (k * w + w - k * w) (drop (k * w) xs)))) → Added n old r new (rows_text (take (k + 1) (rows_of w h xs)))
-rows_more {n} {at} {r} {old} {mid} {new} w h k xs l p q =
-    let m = take_more (rows_of w h xs) k [] (rw length_rows l) in
-    let e = ap rows_text m ∙ flat_push row_line (take k (rows_of w h xs)) (get_or (rows_of w h xs) k []) in
-    rw e (rw (row_part w h k xs l) (then p q))
+-- k rows of a screen have been written, and `rest` is left of its cells
+pub record RowsSoFar (w h : ℕ) (cells : List ℕ) (x y : Buffer) (k size : ℕ) (rest : List ℕ) : Type 0 where
+  pub added : Adds x y (rows_text (take k (rows_of w h cells)))
+  pub most : y.len ≤ x.len + 201 * k
+  pub left : rest ≡ drop (k * w) cells
+  pub exact : size ≡ w
+  pub within : k ≤ h
 
-pub rows_all : {n at : ℕ} {old mid : List ℕ} (w h k : ℕ) (xs : List ℕ) → h ≤ k → Added n old at mid (rows_text (take k (rows_of w h xs))) → Added n old at mid (rows_text (rows_of w h xs))
-rows_all {n} {at} {old} {mid} w h k xs l p = rw (take_all k (rows_of w h xs) (rw length_rows l)) at p
+module _ {w h k size : ℕ} {cells rest : List ℕ} {x y : Buffer} (r : RowsSoFar w h cells x y k size rest) (some : 0 < w) (whole : length cells ≡ h * w) where
+  row_left : size ≤ length rest → k < h
+  row_left l = let e = r.exact in let d = rw r.left at l in lt_of_mul-lt-mul_right w (let z = length-drop (k * w) cells in omega arith)
+
+  pub rows_more : {z : Buffer} {size₁ : ℕ} {rest₁ : List ℕ} (row : List ℕ) → rest ≡ row ++ rest₁ → length row ≡ size → size₁ ≡ size → w ≤ 200 → Adds y z (row_line (map unpacked row)) → z.len ≤ y.len + length row + 1
+      → RowsSoFar w h cells x z (k + 1) size₁ rest₁
+  rows_more {z} {size₁} {rest₁} row e n s m a o =
+      let nw : length row ≡ w = n ∙ r.exact in
+      let room : size ≤ length rest = let g = ap length e ∙ length-append row rest₁ in omega arith in
+      let q = row_left room in
+      let d : drop (k * w) cells ≡ row ++ rest₁ = sym r.left ∙ e in
+      let here : take w (drop (k * w) cells) ≡ row = ap (take w) d ∙ take_at row rest₁ w nw in
+      let part = row_part w h k cells q ∙ ap (map unpacked) here in
+      let t = ap rows_text (take_more (rows_of w h cells) k [] (rw length_rows q)) ∙ flat_push row_line (take k (rows_of w h cells)) (get_or (rows_of w h cells) k []) in
+      record {
+        added = rw (t, part) (both r.added a);
+        most = let u = r.most in omega arith;
+        left = sym (drop_at row rest₁ w nw) ∙ (ap (drop w) (sym d) ∙ (drop-drop w (k * w) cells ∙ ap (λ i. drop i cells) (omega (arith, suc-mul k w))));
+        exact = s ∙ r.exact;
+        within = omega arith;
+      }
+
+  -- where no row is left all have been written
+  pub rows_all : length rest < size → Adds x y (rows_text (rows_of w h cells))
+  rows_all l =
+      let e = r.exact in
+      let d = rw r.left at l in
+      let q : h < suc k = lt_of_mul-lt-mul_right w (rw (suc-mul k w) (let z = length-drop (k * w) cells in omega arith)) in
+      rw (take_all k (rows_of w h cells) (rw length_rows (omega arith))) at r.added

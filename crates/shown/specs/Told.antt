@@ -1,5 +1,5 @@
 -- What a caller learns of a screen written out behind what there was: all of the text, or nothing.
-use Rattle.std.specs.Prelude.{◌≡◌, ℕ, Bool, true, false, List, [], ◌++◌, Ok, Err, Result}
+use Rattle.std.specs.Prelude.{◌≡◌, ℕ, Bool, true, false, List, [], ◌++◌, Ok, Err, Result, codes}
 use Rattle.meaning.specs.Screen.{Term, fresh}
 use Rattle.meaning.specs.Bytes.{written}
 use Rattle.grid.specs.Edits.{on_screen}
@@ -9,6 +9,11 @@ use Rattle.terminal.specs.declared.state.Terminal.{Terminal}
 use Rattle.shown.specs.Text.{screen_text}
 use Rattle.shown.specs.declared.screen.Unwritten.{Unwritten}
 use Rattle.shown.specs.declared.screen.Unwritten.TheVariants.{WrongCells, NoMemory}
+
+-- why nothing was written, as text
+abbrev pub unwritten_says : Unwritten → List ℕ
+unwritten_says WrongCells = codes "the cells are not the screen's"
+unwritten_says NoMemory = codes "out of memory"
 
 -- fit says whether the cells are the screen's
 abbrev pub Adds : List ℕ → Bool → Term → Result Unit Unwritten → List ℕ → Type 0

@@ -11,11 +11,8 @@ fn feed_parts(term: &mut Terminal, cells: &mut [u64], bytes: &[u8], answer: &mut
     requires room { length answer.old ≡ 40960 }
     ensures { FedAll term.old cells.old bytes.now term.new cells.new }
 {
-    let mut at = 0;
-    while at < bytes.len() {
-        let count = (bytes.len() - at).min(MOST);
-        term.feed(cells, &bytes[at..at + count], answer);
-        at += count;
+    for part in bytes.chunks(MOST) {
+        term.feed(cells, part, answer);
     }
 }
 

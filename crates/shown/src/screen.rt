@@ -1,14 +1,41 @@
 // A terminal's screen written out: each row on a line without the blanks at its end, and then where the cursor is.
-ghost use Rattle.shown.specs.Told.{Told};
+ghost use Rattle.std.specs.Prelude.{◌≡◌, Some};
+ghost use Rattle.shown.specs.declared.screen.Unwritten.TheVariants.{NoMemory};
+ghost use Rattle.shown.specs.Told.{Told, unwritten_says};
 
 use crate::line::write_all;
+use output::Buffer;
+use std::alloc::AllocError;
+use std::error::Error;
+use std::fmt;
 use terminal::state::Terminal;
 
 // Why nothing was written: the cells are not the screen's, or there is no memory.
-#[derive(Clone, Copy)]
+#[derive(Clone, Copy, PartialEq, Eq, Debug)]
 pub enum Unwritten {
     WrongCells,
     NoMemory,
+}
+
+impl fmt::Display for Unwritten {
+    ghost output = { λ u. Some (unwritten_says u) };
+
+    fn fmt<W: fmt::Write>(&self, f: &mut fmt::Formatter<W>) -> fmt::Result {
+        match self {
+            Unwritten::WrongCells => write!(f, "the cells are not the screen's"),
+            Unwritten::NoMemory => write!(f, "out of memory"),
+        }
+    }
+}
+
+impl Error for Unwritten {}
+
+impl From<AllocError> for Unwritten {
+    ghost from_gives = { λ _ u. u ≡ NoMemory };
+
+    fn from(_: AllocError) -> Self {
+        Self::NoMemory
+    }
 }
 
 pub fn write_screen(out: &mut Vec<u8>, term: &Terminal, cells: &[u64]) -> Result<(), Unwritten>
@@ -18,9 +45,12 @@ pub fn write_screen(out: &mut Vec<u8>, term: &Terminal, cells: &[u64]) -> Result
         return Err(Unwritten::WrongCells);
     }
     let mut text = [0; 12288];
-    let n = write_all(&mut text, term, cells);
-    match out.extend_from_slice(&text[0..n]) {
-        Ok(_) => Ok(()),
-        Err(_) => Err(Unwritten::NoMemory),
-    }
+    let mut buffer = Buffer {
+        bytes: &mut text,
+        len: 0,
+    };
+    write_all(&mut buffer, term, cells);
+    let len = buffer.len;
+    out.extend_from_slice(&text[..len])?;
+    Ok(())
 }

@@ -28,10 +28,20 @@ mod tests {
         Ok(())
     }
 
+    // A screen's columns and rows, the bytes, and the text.
+    type Case<'a> = (usize, usize, &'a [u8], &'a [u8]);
+
+    fn all_show(rt: &(impl Abort + AllocGlobal), table: &[Case]) -> Result<(), Fail> {
+        for (wide, high, bytes, text) in table {
+            shows(rt, *wide, *high, bytes, text)?;
+        }
+        Ok(())
+    }
+
     // Printing and control characters.
     #[test]
     fn control_characters(rt: HostRuntime) -> Result<(), Fail> {
-        let table: [(usize, usize, &[u8], &[u8]); 13] = [
+        let table: &[Case] = &[
             (5, 3, b"abc", b"abc\n\n\ncursor 1 4\n"),
             (5, 3, b"abcdefg", b"abcde\nfg\n\ncursor 2 3\n"),
             (3, 2, b"abcdefghi", b"def\nghi\ncursor 2 3\n"),
@@ -46,16 +56,13 @@ mod tests {
             (1, 2, b"ab", b"a\nb\ncursor 2 1\n"),
             (1, 1, b"ab", b"b\ncursor 1 1\n"),
         ];
-        for (wide, high, bytes, text) in table {
-            shows(&rt, wide, high, bytes, text)?;
-        }
-        Ok(())
+        all_show(&rt, table)
     }
 
     // A pending wrap is ended by what sets the cursor.
     #[test]
     fn wrap_ended(rt: HostRuntime) -> Result<(), Fail> {
-        let table: [(usize, usize, &[u8], &[u8]); 11] = [
+        let table: &[Case] = &[
             (3, 2, b"abc\x08X", b"aXc\n\ncursor 1 3\n"),
             (3, 2, b"abc\tX", b"abX\n\ncursor 1 3\n"),
             (3, 2, b"abc\nX", b"abc\n  X\ncursor 2 3\n"),
@@ -68,16 +75,13 @@ mod tests {
             (3, 2, b"abc\x1b[?6lX", b"Xbc\n\ncursor 1 2\n"),
             (3, 2, b"abc\x1bDX", b"abc\n  X\ncursor 2 3\n"),
         ];
-        for (wide, high, bytes, text) in table {
-            shows(&rt, wide, high, bytes, text)?;
-        }
-        Ok(())
+        all_show(&rt, table)
     }
 
     // And by nothing else.
     #[test]
     fn wrap_kept(rt: HostRuntime) -> Result<(), Fail> {
-        let table: [(usize, usize, &[u8], &[u8]); 16] = [
+        let table: &[Case] = &[
             (3, 2, b"abcX", b"abc\nX\ncursor 2 2\n"),
             (3, 2, b"abc\x1b[KX", b"ab\nX\ncursor 2 2\n"),
             (3, 2, b"abc\x1b[JX", b"ab\nX\ncursor 2 2\n"),
@@ -95,16 +99,13 @@ mod tests {
             (3, 2, b"\x1b[?7labcd\x1b[?7hef", b"abe\nf\ncursor 2 2\n"),
             (3, 3, b"\x1b[1;2r\x1b[3;1HabcX", b"\n\nXbc\ncursor 3 2\n"),
         ];
-        for (wide, high, bytes, text) in table {
-            shows(&rt, wide, high, bytes, text)?;
-        }
-        Ok(())
+        all_show(&rt, table)
     }
 
     // Cursor motion.
     #[test]
     fn cursor_motion(rt: HostRuntime) -> Result<(), Fail> {
-        let table: [(usize, usize, &[u8], &[u8]); 11] = [
+        let table: &[Case] = &[
             (
                 6,
                 4,
@@ -137,16 +138,13 @@ mod tests {
             (3, 1, b"a\x1b[?25l", b"a\ncursor hidden\n"),
             (3, 1, b"\x1b[?25l\x1b[?25hb", b"b\ncursor 1 2\n"),
         ];
-        for (wide, high, bytes, text) in table {
-            shows(&rt, wide, high, bytes, text)?;
-        }
-        Ok(())
+        all_show(&rt, table)
     }
 
     // Erasing, inserting and deleting.
     #[test]
     fn edits(rt: HostRuntime) -> Result<(), Fail> {
-        let table: [(usize, usize, &[u8], &[u8]); 11] = [
+        let table: &[Case] = &[
             (3, 3, b"abcdefghi\x1b[2;2H\x1b[J", b"abc\nd\n\ncursor 2 2\n"),
             (
                 3,
@@ -179,16 +177,13 @@ mod tests {
             (5, 1, b"abcd\r\x1b[4hX\x1b[4lY", b"XYbcd\ncursor 1 3\n"),
             (3, 2, b"abc\x1b[4hX", b"abc\nX\ncursor 2 2\n"),
         ];
-        for (wide, high, bytes, text) in table {
-            shows(&rt, wide, high, bytes, text)?;
-        }
-        Ok(())
+        all_show(&rt, table)
     }
 
     // Scrolling and the scroll region.
     #[test]
     fn scrolling(rt: HostRuntime) -> Result<(), Fail> {
-        let table: [(usize, usize, &[u8], &[u8]); 12] = [
+        let table: &[Case] = &[
             (
                 3,
                 4,
@@ -247,16 +242,13 @@ mod tests {
             ),
             (3, 3, b"a\r\nb\x1b[H\x1bMx", b"x\na\nb\ncursor 1 2\n"),
         ];
-        for (wide, high, bytes, text) in table {
-            shows(&rt, wide, high, bytes, text)?;
-        }
-        Ok(())
+        all_show(&rt, table)
     }
 
     // Origin mode, and stops at the region.
     #[test]
     fn origin(rt: HostRuntime) -> Result<(), Fail> {
-        let table: [(usize, usize, &[u8], &[u8]); 9] = [
+        let table: &[Case] = &[
             (
                 4,
                 5,
@@ -307,16 +299,13 @@ mod tests {
                 b"Qyzw\nv\n\ncursor 1 2\n",
             ),
         ];
-        for (wide, high, bytes, text) in table {
-            shows(&rt, wide, high, bytes, text)?;
-        }
-        Ok(())
+        all_show(&rt, table)
     }
 
     // The parser.
     #[test]
     fn parser(rt: HostRuntime) -> Result<(), Fail> {
-        let table: [(usize, usize, &[u8], &[u8]); 16] = [
+        let table: &[Case] = &[
             (6, 1, b"a\x1b[3\x18Cb", b"aCb\ncursor 1 4\n"),
             (6, 1, b"a\x1b[3\x1aCb", b"aCb\ncursor 1 4\n"),
             (6, 1, b"a\x1b[3\x1b[Cb", b"a b\ncursor 1 4\n"),
@@ -349,16 +338,13 @@ mod tests {
             (6, 1, b"a\x1b[5zb\x1b[?5Cc", b"abc\ncursor 1 4\n"),
             (6, 1, b"ab\x1b[3", b"ab\ncursor 1 3\n"),
         ];
-        for (wide, high, bytes, text) in table {
-            shows(&rt, wide, high, bytes, text)?;
-        }
-        Ok(())
+        all_show(&rt, table)
     }
 
     // Control strings.
     #[test]
     fn strings(rt: HostRuntime) -> Result<(), Fail> {
-        let table: [(usize, usize, &[u8], &[u8]); 7] = [
+        let table: &[Case] = &[
             (6, 1, b"a\x1b]0;title\x07b", b"ab\ncursor 1 3\n"),
             (6, 1, b"a\x1b]0;title\x1b\\b", b"ab\ncursor 1 3\n"),
             (6, 1, b"a\x1b]0;x\x1b[31my\x07b", b"ab\ncursor 1 3\n"),
@@ -367,10 +353,7 @@ mod tests {
             (6, 1, b"a\x1b]x\x1b\x7f\\b", b"ab\ncursor 1 3\n"),
             (6, 1, b"a\x1b]0;no end", b"a\ncursor 1 2\n"),
         ];
-        for (wide, high, bytes, text) in table {
-            shows(&rt, wide, high, bytes, text)?;
-        }
-        Ok(())
+        all_show(&rt, table)
     }
 
     // What the terminal answers to these bytes.
@@ -400,7 +383,7 @@ mod tests {
     // Device status reports, and the cursor position in origin mode.
     #[test]
     fn reports(rt: HostRuntime) -> Result<(), Fail> {
-        let table: [(usize, usize, &[u8], &[u8]); 8] = [
+        let table: &[Case] = &[
             (10, 5, b"\x1b[3;4H\x1b[6n", b"\x1b[3;4R"),
             (10, 5, b"\x1b[5n", b"\x1b[0n"),
             (10, 5, b"\x1b[5n\x1b[6n", b"\x1b[0n\x1b[1;1R"),
@@ -416,7 +399,7 @@ mod tests {
             ),
         ];
         for (wide, high, bytes, text) in table {
-            answers(&rt, wide, high, bytes, text)?;
+            answers(&rt, *wide, *high, bytes, text)?;
         }
         Ok(())
     }

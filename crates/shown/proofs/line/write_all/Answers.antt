@@ -1,6 +1,6 @@
 use Rattle.std.proofs.Common.{arith}
-use Rattle.output.proofs.Adding.{then}
+use Rattle.output.proofs.Adding.{both}
 use Rattle.shown.proofs.line.write_all.Goals as goal
 
-pub returns : goal.returns
-returns c = record { added = λ a. (then c.write_rows-n.ensures.added (c.write_cursor.ensures.added c.args.cells.now a)).said; most = omega arith }
+pub returns-clause-added : goal.returns-clause-added
+returns-clause-added c a = both c.write_rows.ensures.added (c.write_cursor.ensures.added c.args.cells.now a)

@@ -1,8 +1,10 @@
 use Rattle.std.proofs.Common.{arith}
-use Rattle.shown.proofs.Rows.{row_added}
+use Rattle.output.proofs.Adding.{both}
+use Rattle.shown.proofs.Rows.{text_ends, signs_end}
 use Rattle.shown.proofs.line.write_row.Goals as goal
 
-pub returns : goal.returns
-returns c =
-    let p = row_added c.args.row.now c.row_end-end.result c.write_signs-a.ensures c.row_end-end.ensures.text c.row_end-end.ensures.within (omega arith) c.push.ensures.added in
-    record { added = p.0; most = p.1 }
+pub returns-clause-added : goal.returns-clause-added
+returns-clause-added c =
+    let e = c.row_end.ensures in
+    let s = c.write_signs.ensures in
+    rw (text_ends c.args.row.now c.row_end.result e.within e.blank e.full) (both s (c.push.ensures.added (signs_end _ s e.within c.requires)))

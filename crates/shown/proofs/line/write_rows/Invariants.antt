@@ -1,8 +1,8 @@
-use Rattle.std.proofs.Common.{◌*◌, ◌≤◌, take}
-use Rattle.grid.specs.Cells.{rows_of}
-use Rattle.output.specs.Added.{Added}
-use Rattle.shown.specs.Text.{rows_text}
+use Rattle.std.proofs.Common.{length}
+use Rattle.std.specs.Slice.Iter.{chunks_exact_rest, chunks_exact_size}
+use Rattle.shown.proofs.Rows.{RowsSoFar}
 use Rattle.shown.proofs.line.write_rows.Given as goal
 
 abbrev pub invariant-loop-row : goal.invariant-loop-row
-invariant-loop-row l = Added 0 l.initial.out l.n l.out (rows_text (take l.row (rows_of l.size.wide l.size.high l.cells))) × (l.n ≤ 201 * l.row)
+invariant-loop-row l = (goal.iterator-loop-row).can_next l.row-iterator × (goal.iterator-loop-row).is_finite l.row-iterator
+    × RowsSoFar l.fn.size.wide l.fn.size.high l.cells l.initial.buffer l.buffer (length l.yielded) (chunks_exact_size l.row-iterator) (chunks_exact_rest l.row-iterator)
