@@ -1,6 +1,6 @@
 -- A day is its first line and the rest of it.
 use Rattle.std.proofs.Common.{◌≡◌, ℕ, suc, ◌+◌, ◌-◌, ◌<◌, ◌≤◌, true, false, not, eqb, ◌⊎◌, List, [], ◌∷◌, ◌++◌, map, length, take, drop, is_ok, Err, Result, sym, refl, ap, ◌∙◌, subst, inl, inr, ⊎_elim, append_assoc, append-nil, suc-add, one-add, arith}
-use Rattle.std.proofs.lemmas.List.{length-append, length-map, length_push, map_push, take_at, get_or_at}
+use Rattle.std.proofs.lemmas.List.{length-append, length-map, length_push, take_at, get_or_at}
 use Rattle.std.proofs.lemmas.Bool.{cond-true, cond-false, cases_Bool}
 use Rattle.meaning.specs.Words.{every}
 use Rattle.days.specs.declared.fault.Fault.{Fault}
@@ -39,23 +39,20 @@ all_ok : (ls : List Line) → every is_ok (map said ls) ≡ true
 all_ok [] = refl
 all_ok (l ∷ ls) = all_ok ls
 
-pub kept_line : (old new : List Line) (l : Line) (o : Result Thing Fault) → new ≡ old ++ l ∷ [] → o ≡ said l → map said new ≡ map said old ++ o ∷ []
-kept_line old new l o p q = ap (map said) p ∙ map_push said old l ∙ ap (λ x. map said old ++ x ∷ []) (sym q)
-
 pub one_longer : (old new : List Line) (o : Result Thing Fault) → map said new ≡ map said old ++ o ∷ [] → length new ≡ length old + 1
 one_longer old new o p = sym (length-map new said) ∙ ap length p ∙ length_push (map said old) o ∙ ap (λ k. k + 1) (length-map old said)
 
--- where the loop stands: so many lines kept, and what is left; n bytes are left of this line
-module _ (all : List (Result Thing Fault)) (old : List Line) (rest line : List ℕ) (n : ℕ) (some : 0 < length rest) (so_far : map said old ++ readings rest ≡ all) (is : n ≡ up_to rest 10) (cut : line ≡ take n rest) where
-  first_is : readings rest ≡ line_of line ∷ readings (drop (n + 1) rest)
-  first_is = readings_first rest some ∙ ap (λ k. line_of (take k rest) ∷ readings (drop (k + 1) rest)) (sym is) ∙ ap (λ l. line_of l ∷ readings (drop (n + 1) rest)) (sym cut)
+-- where the loop stands: so many lines kept, and what is left, of which `line` is the first
+module _ (all : List (Result Thing Fault)) (old : List Line) (rest line : List ℕ) (some : 0 < length rest) (so_far : map said old ++ readings rest ≡ all) (cut : line ≡ take (up_to rest 10) rest) where
+  first_is : readings rest ≡ line_of line ∷ readings (drop (up_to rest 10 + 1) rest)
+  first_is = readings_first rest some ∙ ap (λ l. line_of l ∷ readings (drop (up_to rest 10 + 1) rest)) (sym cut)
 
-  pub one_line_on : (new : List Line) (rest' : List ℕ) → map said new ≡ map said old ++ line_of line ∷ [] → rest' ≡ drop (n + 1) rest → map said new ++ readings rest' ≡ all
+  pub one_line_on : (new : List Line) (rest' : List ℕ) → map said new ≡ map said old ++ line_of line ∷ [] → rest' ≡ drop (up_to rest 10 + 1) rest → map said new ++ readings rest' ≡ all
   one_line_on new rest' p q =
       ap (λ xs. xs ++ readings rest') p ∙ append_assoc (map said old) (line_of line ∷ []) (readings rest')
       ∙ ap (λ xs. map said old ++ line_of line ∷ readings xs) q ∙ ap (λ xs. map said old ++ xs) (sym first_is) ∙ so_far
 
-  all_is : all ≡ map said old ++ line_of line ∷ readings (drop (n + 1) rest)
+  all_is : all ≡ map said old ++ line_of line ∷ readings (drop (up_to rest 10 + 1) rest)
   all_is = sym so_far ∙ ap (λ xs. map said old ++ xs) first_is
 
   pub line_is_bad : (k : ℕ) (e : Fault) → k ≡ length old → (e ≡ Memory) ⊎ (line_of line ≡ Err e) → BadLine all (record { line = k + 1; fault = e })

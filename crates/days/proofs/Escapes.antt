@@ -226,3 +226,10 @@ print_more out more base bs i h e p =
 pub print_done : (out base bs : List ℕ) (i : ℕ) → length bs ≤ i → out ++ escaped (drop i bs) ≡ base → out ≡ base
 unfolding escaped
 print_done out base bs i h p = sym (append-nil out) ∙ ap (λ xs. out ++ xs) (sym (at_drop_all escaped bs i h)) ∙ p
+
+pub not_at_end : (m : Mode) → (m ≡ Plain → ⊥) → is_plain m ≡ false
+not_at_end Plain h = absurd (h refl)
+not_at_end Slash h = refl
+not_at_end Hex h = refl
+not_at_end (Digit v) h = refl
+not_at_end Bad h = refl

@@ -38,8 +38,8 @@ abbrev pub is_short_escape : ℕ → Bool
 is_short_escape c = or (c == 34) (or (c == 92) (or (c == 101) (or (c == 110) (or (c == 114) (c == 116)))))
 
 -- the byte that a backslash and one more byte stand for: \e, \n, \r and \t by name, \" and \\ for themselves
-abbrev pub short_escape : ℕ → ℕ
-short_escape c = pick (c == 101) 27 (pick (c == 110) 10 (pick (c == 114) 13 (pick (c == 116) 9 c)))
+abbrev pub escape_value : ℕ → ℕ
+escape_value c = pick (c == 101) 27 (pick (c == 110) 10 (pick (c == 114) 13 (pick (c == 116) 9 c)))
 
 -- reading one more byte: an unescaped quote, a byte that cannot be seen and an unknown escape are refused
 abbrev pub mode_after : Mode → ℕ → Mode
@@ -52,7 +52,7 @@ mode_after Bad c = Bad
 -- what that byte adds to the bytes read
 abbrev pub bytes_at : Mode → ℕ → List ℕ
 bytes_at Plain c = pick (c == 92) [] (c ∷ [])
-bytes_at Slash c = pick (is_short_escape c) (short_escape c ∷ []) []
+bytes_at Slash c = pick (is_short_escape c) (escape_value c ∷ []) []
 bytes_at Hex c = []
 bytes_at (Digit v) c = pick (is_hex c) ((16 * v + value_of_hex c) ∷ []) []
 bytes_at Bad c = []

@@ -4,15 +4,14 @@ ghost use Rattle.days.specs.Line.{line_of};
 
 use crate::fault::{BadDay, Fault};
 use crate::line::Line;
-use crate::parts::{after, first, up_to};
+use crate::parts::cut;
 use crate::reading::read_line;
 use std::alloc::Global;
 
 fn keep(heap: Global, day: &mut Vec<Line>, text: &[u8]) -> Result<(), Fault>
     ensures { Kept result day.old.items day.new.items (line_of text.now) }
 {
-    let line = read_line(heap, text)?;
-    day.push(line)?;
+    day.push(read_line(heap, text)?)?;
     Ok(())
 }
 
@@ -22,13 +21,13 @@ pub fn read_day(heap: Global, text: &[u8]) -> Result<Vec<Line>, BadDay>
 {
     let mut day = Vec::new(heap);
     let mut rest = text;
-    while rest.len() > 0 {
-        let n = up_to(rest, b'\n');
+    while !rest.is_empty() {
+        let (first, more) = cut(rest, b'\n');
         let line = day.len() + 1;
-        if let Err(fault) = keep(heap, &mut day, first(rest, n)) {
+        if let Err(fault) = keep(heap, &mut day, first) {
             return Err(BadDay { line, fault });
         }
-        rest = after(rest, n);
+        rest = more;
     }
     Ok(day)
 }

@@ -8,37 +8,15 @@ use crate::parts::rest;
 use meaning::Told;
 use std::alloc::AllocError;
 
-// What is left of the written bytes behind those of an act.
-fn after_written(act: Told, written: &[u8]) -> &[u8]
-    ensures { result.now ≡ written_left act written.now }
+// What is left of the written and of the sent bytes behind those of an act.
+fn left<'a>(act: Told, written: &'a [u8], sent: &'a [u8]) -> (&'a [u8], &'a [u8])
+    ensures written { result.0.now ≡ written_left act written.now }
+    ensures sent { result.1.now ≡ sent_left act sent.now }
 {
     match act {
-        Told::Write(n) => rest(written, n as usize),
-        Told::Send(_) => written,
-        Told::Start(_) => written,
-        Told::Size(_) => written,
-        Told::Stop(_) => written,
-        Told::Leave => written,
-        Told::Over => written,
-        Told::Wait => written,
-        Told::No(_) => written,
-    }
-}
-
-// The same of those that were sent.
-fn after_sent(act: Told, sent: &[u8]) -> &[u8]
-    ensures { result.now ≡ sent_left act sent.now }
-{
-    match act {
-        Told::Write(_) => sent,
-        Told::Send(n) => rest(sent, (n % 65536) as usize),
-        Told::Start(_) => sent,
-        Told::Size(_) => sent,
-        Told::Stop(_) => sent,
-        Told::Leave => sent,
-        Told::Over => sent,
-        Told::Wait => sent,
-        Told::No(_) => sent,
+        Told::Write(n) => (rest(written, n as usize), sent),
+        Told::Send(n) => (written, rest(sent, (n % 65536) as usize)),
+        _ => (written, sent),
     }
 }
 
@@ -61,12 +39,10 @@ pub fn print_acts(
 ) -> Result<(), AllocError>
     ensures { OnOk result (Added out.old.items out.new.items (acts_lines acts.now written.now sent.now)) }
 {
-    let mut to_write = written;
-    let mut to_send = sent;
+    let (mut to_write, mut to_send) = (written, sent);
     for act in acts {
         print_one(out, *act, to_write, to_send)?;
-        to_write = after_written(*act, to_write);
-        to_send = after_sent(*act, to_send);
+        (to_write, to_send) = left(*act, to_write, to_send);
     }
     Ok(())
 }

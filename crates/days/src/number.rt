@@ -6,15 +6,15 @@ ghost use Rattle.days.specs.Line.{number_of};
 pub(crate) fn read_number(digits: &[u8]) -> Option<u64>
     ensures { result ≡ number_of digits.now }
 {
-    if digits.len() < 1 || digits.len() > 10 {
+    if digits.is_empty() || digits.len() > 10 {
         return None;
     }
     let mut n = 0;
     for c in digits {
-        if *c < b'0' || *c > b'9' {
+        if !c.is_ascii_digit() {
             return None;
         }
-        n = 10 * n + (*c - b'0') as u64;
+        n = 10 * n + u64::from(*c - b'0');
     }
     Some(n)
 }

@@ -6,35 +6,21 @@ ghost use Rattle.days.specs.Line.{up_to};
 pub(crate) fn first(bytes: &[u8], n: usize) -> &[u8]
     ensures { result.now ≡ take n bytes.now }
 {
-    if n < bytes.len() { &bytes[0..n] } else { bytes }
-}
-
-// What stands behind place `n`.
-pub(crate) fn after(bytes: &[u8], n: usize) -> &[u8]
-    ensures { result.now ≡ drop (n + 1) bytes.now }
-{
-    if n < bytes.len() {
-        &bytes[n + 1..]
-    } else {
-        &[]
-    }
-}
-
-// How many bytes stand before the first `stop`, or in all.
-pub(crate) fn up_to(bytes: &[u8], stop: u8) -> usize
-    ensures { result ≡ up_to bytes.now stop }
-{
-    for (i, b) in bytes.iter().enumerate() {
-        if *b == stop {
-            return i;
-        }
-    }
-    bytes.len()
+    &bytes[..n.min(bytes.len())]
 }
 
 // What stands from place `n` on.
 pub(crate) fn rest(bytes: &[u8], n: usize) -> &[u8]
     ensures { result.now ≡ drop n bytes.now }
 {
-    if n < bytes.len() { &bytes[n..] } else { &[] }
+    &bytes[n.min(bytes.len())..]
+}
+
+// What stands before the first `stop`, or all, and what stands behind it.
+pub(crate) fn cut(bytes: &[u8], stop: u8) -> (&[u8], &[u8])
+    ensures before { result.0.now ≡ take (up_to bytes.now stop) bytes.now }
+    ensures behind { result.1.now ≡ drop (up_to bytes.now stop + 1) bytes.now }
+{
+    let n = bytes.iter().take_while(|b| **b != stop).count();
+    (&bytes[..n], rest(bytes, n + 1))
 }

@@ -3,7 +3,7 @@ ghost use Rattle.std.specs.Prelude.{◌≡◌, ◌<◌, IfSome, IfOk, if◌then�
 ghost use Rattle.days.specs.Added.{Added};
 ghost use Rattle.std.specs.Option.{option_to_list};
 ghost use Rattle.days.specs.declared.mode.Mode.TheVariants.{Plain, Slash, Digit};
-ghost use Rattle.days.specs.Text.{is_hex, value_of_hex, digit_of_hex, is_short_escape, short_escape, mode_after, bytes_at, DigitFits, is_plain, escaped_byte, escaped, unescaped, TextRead, PrintedAgain};
+ghost use Rattle.days.specs.Text.{is_hex, value_of_hex, digit_of_hex, is_short_escape, escape_value, mode_after, bytes_at, DigitFits, escaped_byte, escaped, unescaped, TextRead, PrintedAgain};
 
 use crate::fault::Fault;
 use crate::mode::Mode;
@@ -24,7 +24,7 @@ fn hex_value(c: u8) -> Option<u8>
 
 // The byte that a backslash and `c` stand for, where that is a whole escape.
 fn short_escape(c: u8) -> Option<u8>
-    ensures { result ≡ (if is_short_escape c then Some (short_escape c) else None) }
+    ensures { result ≡ (if is_short_escape c then Some (escape_value c) else None) }
 {
     match c {
         b'"' | b'\\' => Some(c),
@@ -88,24 +88,6 @@ fn step(mode: Mode, c: u8) -> (Mode, Option<u8>)
     }
 }
 
-fn is_plain(mode: Mode) -> bool
-    ensures { result ≡ is_plain mode }
-{
-    match mode {
-        Mode::Plain => true,
-        Mode::Slash | Mode::Hex | Mode::Digit(_) | Mode::Bad => false,
-    }
-}
-
-fn put(out: &mut Vec<u8>, byte: Option<u8>) -> Result<(), AllocError>
-    ensures { OnOk result (Added out.old.items out.new.items (option_to_list byte)) }
-{
-    if let Some(b) = byte {
-        out.push(b)?;
-    }
-    Ok(())
-}
-
 // The bytes that an escaped text stands for.
 pub fn read_text(heap: Global, text: &[u8]) -> Result<Vec<u8>, Fault>
     ensures value { TextRead result (unescaped text.now) }
@@ -115,13 +97,12 @@ pub fn read_text(heap: Global, text: &[u8]) -> Result<Vec<u8>, Fault>
     let mut mode = Mode::Plain;
     for c in text {
         let (next, byte) = step(mode, *c);
-        put(&mut out, byte)?;
+        out.extend(byte)?;
         mode = next;
     }
-    if is_plain(mode) {
-        Ok(out)
-    } else {
-        Err(Fault::BadText)
+    match mode {
+        Mode::Plain => Ok(out),
+        _ => Err(Fault::BadText),
     }
 }
 

@@ -1,12 +1,13 @@
-use Rattle.std.proofs.Common.{sym, ◌∙◌}
-use Rattle.days.proofs.Sorts.{blank_stops, blank_more, blank_ends}
+use Rattle.std.proofs.Common.{refl, ◌&&◌, ◌∙◌, rules, tests}
+use Rattle.std.specs.List.{list_all}
+use Rattle.std.proofs.lemmas.Iterator.{YieldsList-from_slice}
+use Rattle.std.proofs.lemmas.Iterator.Search.{all_from_yields_List}
+use Rattle.std.proofs.lemmas.List.Recursion.{same_from_clauses}
+use Rattle.days.specs.Line.{is_blank, all_blank}
 use Rattle.days.proofs.reading.all_spaces.Goals as goal
 
-pub returns-then-not-is_space : goal.returns-then-not-is_space
-returns-then-not-is_space c = blank_stops c.args.line.now c.loop-b.b-index c.loop-b-test.true (sym c.if-not-is_space.ensures) ∙ c.loop-b.invariant
-
-pub loop-b-preserved : goal.loop-b-preserved
-loop-b-preserved c = blank_more c.args.line.now c.loop-b.b-index c.loop-b-test.true (sym c.if-not-is_space.ensures) ∙ c.loop-b.invariant
-
 pub returns : goal.returns
-returns c = blank_ends c.args.line.now c.loop-b.b-index c.loop-b-test.false ∙ c.loop-b.invariant
+returns c =
+    let xs = c.args.line.now in
+    all_from_yields_List is_blank _ _ _ c.all.ensures.ran (YieldsList-from_slice xs cc) (λ x b q k. search (rules, tests))
+    ∙ same_from_clauses (list_all is_blank) all_blank (λ x b. is_blank x && b) refl (λ _ _. refl) (λ _ _. refl) xs
