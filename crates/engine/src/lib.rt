@@ -8,6 +8,12 @@ ghost use Rattle.engine.specs.Core.{core_machine};
 ghost use Rattle.engine.specs.Own.{own};
 ghost use Rattle.engine.specs.Detaching.{detaching_machine};
 
+// How many numbers the memory has.
+pub const MEMORY: usize = 238304;
+
+// How many bytes the lent row has at least: the longest that is ever said.
+pub const OUT: usize = 65536;
+
 // Memory is all 0 at the start; it never grows, nor do its numbers beyond 64 bits.
 pub fn steady_stands() -> u8
     ensures { Steady own }

@@ -1,8 +1,8 @@
 -- A pane's terminal fed over its cells in memory, with its answer in the lent row.
-use Rattle.std.proofs.Common.{◌≡◌, ℕ, ◌+◌, ◌-◌, ◌*◌, ◌≤◌, true, List, ◌++◌, length, take, drop, sym, ap, ◌∙◌, subst, arith, length-drop, length-take}
+use Rattle.std.proofs.Common.{◌≡◌, ℕ, ◌+◌, ◌-◌, ◌*◌, ◌≤◌, true, false, Some, None, Option, IsSome, MatchOption, rules, List, ◌++◌, length, take, drop, sym, ap, ◌∙◌, subst, arith, length-drop, length-take}
 use borrow.Rule.Slice.PartMut.{put_mid}
 use Rattle.std.proofs.lemmas.List.{take-append-drop}
-use Rattle.std.proofs.lemmas.Bool.{and_from, eq-eqb, le-leb}
+use Rattle.std.proofs.lemmas.Bool.{and_from, eq-eqb, le-leb, both_ways}
 use Rattle.meaning.specs.Screen.{Term}
 use Rattle.meaning.specs.Bytes.{written}
 use Rattle.terminal.specs.Terms.{term_on}
@@ -26,6 +26,15 @@ lent_fits t m bytes out k e lm lb lo =
     let f = few_cells t.size in
     let c : length (take 40960 out) ≡ 40960 = length-take 40960 out ∙ omega arith in
     and_from _ _ (eq-eqb _ _ (length_lent m k (omega arith) lm ∙ e)) (and_from _ _ (le-leb (length bytes) 4096 lb) (le-leb (10 * length bytes) (length (take 40960 out)) (omega arith)))
+
+-- so an answer comes
+pub some_fed : (t t₁ : Terminal) (m bytes out cells front : List ℕ) (k : ℕ) (o : Option ℕ) → k ≡ t.size.high * t.size.wide → length m ≡ 238304 → length bytes ≤ 4096 → 65536 ≤ length out
+    → MatchOption o
+    ((can_feed t (take ((38304 + k) - 38304) (drop 38304 m)) bytes (take 40960 out) ≡ false) × (t₁ ≡ t) × (cells ≡ take ((38304 + k) - 38304) (drop 38304 m)) × (front ≡ take 40960 out))
+    (λ n. (can_feed t (take ((38304 + k) - 38304) (drop 38304 m)) bytes (take 40960 out) ≡ true) × Fed t (take ((38304 + k) - 38304) (drop 38304 m)) bytes (take 40960 out) n t₁ cells front)
+    → IsSome o
+some_fed t t₁ m bytes out cells front k None e lm lb lo h = absurd (both_ways _ h.0 (lent_fits t m bytes out k e lm lb lo))
+some_fed t t₁ m bytes out cells front k (Some n) e lm lb lo h = search rules
 
 -- the first r of a row and those behind, which are as they were
 row_of : (front out bs : List ℕ) (r : ℕ) → take r front ≡ bs → r ≤ length front → drop r front ≡ drop r out → (r ≡ length bs) × (front ≡ bs ++ drop (length bs) out)

@@ -56,6 +56,9 @@ unfolding said_or_going view_at
 bytes_pass x m m₁ ys ys₁ i bs r e d = subst (λ (o : Out). Does o m m₁ r ys ys₁) (ap (then_goes (view_of x m)) (sym e)) d
 
 -- THE STATE AFTERWARDS
+pub retermed : (x : Machine) (p : Held) (t : Terminal) → x.pane ≡ Some p → Retermed x p.id t (record x { pane = Some (record p { terminal = t }) })
+retermed x p t e = record { glass = λ m. rw e; view = λ m. refl }
+
 term_taken : (t t₁ : Terminal) (m m₁ bs ys ys₁ : List ℕ) (k : ℕ) → length m ≡ memory_size → Answered t m bs ys k t₁ m₁ ys₁ → terminal_in t₁ m₁ ≡ taken t m bs
 term_taken t t₁ m m₁ bs ys ys₁ k l a =
     let z = placed in

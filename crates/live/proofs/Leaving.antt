@@ -19,6 +19,9 @@ use Rattle.live.specs.Turned.{turned, Left}
 abbrev pub leaves : Glass → ℕ → Bool
 leaves g c = g.attached && (g.prefix && eqb c 100)
 
+pub without_viewer : (x : Machine) → Left x (record x { attached = false; prefix = false })
+without_viewer x = record { glass = λ m. refl; view = λ m. refl }
+
 pub key_leaves : (g : Glass) (c : ℕ) → leaves g c ≡ true → turn detaching g (key c) ≡ turn_of (left g) (leave ∷ [])
 key_leaves g c e =
     let a = and_parts g.attached _ e in

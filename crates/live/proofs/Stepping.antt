@@ -1,9 +1,11 @@
 -- A whole step, as its contract states it.
-use Rattle.std.proofs.Common.{◌≡◌, ℕ, ◌*◌, ◌≤◌, Bool, true, false, ◌&&◌, eqb, leb, List, [], ◌∷◌, length, sym, refl, ap, ◌∙◌, subst}
-use Rattle.std.proofs.lemmas.Bool.{and_from, and_left, and_right, cond-true, cond-false, and_parts, eqb-true, leb-true}
+use Rattle.std.proofs.Common.{◌≡◌, ℕ, ◌*◌, ◌<◌, ◌≤◌, Bool, true, false, ◌&&◌, eqb, leb, List, [], ◌∷◌, ◌++◌, length, drop, sym, refl, ap, ◌∙◌, subst, arith, length-take}
+use Rattle.std.specs.Array.{IsWholeChunk, IsFirstChunk}
+use Rattle.std.proofs.lemmas.List.{take-append-drop}
+use Rattle.std.proofs.lemmas.Bool.{and_from, and_left, and_right, cond-true, cond-false, eq-eqb, ne_eqb, le-leb, lt-leb}
 use Rattle.meaning.specs.Words.{so_many}
-use Rattle.meaning.specs.Panes.{Glass, Event, key, from, gone, attach, turn, on_bytes, at_first}
-use Rattle.meaning.specs.Promise.{ToldIt, comes, next, Act, wait, Step, detaching}
+use Rattle.meaning.specs.Panes.{Glass, Event, gone, attach, turn, on_bytes, at_first}
+use Rattle.meaning.specs.Promise.{ToldIt, comes, next, Act, wait, Step, proper_event, core, detaching}
 use Rattle.meaning.specs.Entry.{StepSays, ActTold, step_fits, told_of}
 use Rattle.meaning.specs.declared.answer.Told.{Told}
 use Rattle.meaning.specs.declared.answer.Told.TheVariants.{Wait, No}
@@ -17,10 +19,14 @@ use Rattle.engine.proofs.Maps.{placed}
 use Rattle.machine.specs.States.{glass_of, view_of, state_of}
 use Rattle.machine.specs.declared.state.Machine.{Machine}
 use Rattle.turns.specs.Does.{Does}
-use Rattle.live.specs.Means.{Goes}
-use Rattle.turns.specs.Turned.{then_goes}
+use Rattle.live.specs.Coming.{event_of, sizes_fit, ToldSays}
+use Rattle.live.specs.declared.coming.Coming.{Coming}
+use Rattle.live.specs.declared.coming.Coming.TheVariants.{Key, From, Gone, Look}
+use Rattle.live.specs.Goes.{Goes}
+use Rattle.turns.specs.Turned.{then_goes, turned_by}
 use Rattle.live.specs.Turned.{turned, AtFirst}
 use Rattle.turns.proofs.Viewing.{viewed_so, after_cells}
+use Rattle.turns.proofs.Taken.{act_lent}
 
 -- the machine's step where it does something, and where it does nothing
 own_takes : (m : List ℕ) (t : ToldIt) → memory_fits m ≡ true → proper_told t ≡ true → detaching_machine.step m t ≡ kept encode m (taking detaching (decode m) t)
@@ -41,15 +47,20 @@ goes_does m m₁ ys ys₁ t s r f e p d =
       act = subst (λ (z : Act). ActTold z r ys ys₁) (sym (ap (λ (z : Step). z.act) q)) d.act;
     }
 
-pub goes_turned : (x : Machine) (m m₁ ys ys₁ : List ℕ) (t : ToldIt) (ev : Event) (r : Told) → memory_fits m ≡ true → decode m ≡ state_of x m → proper_told t ≡ true → t ≡ comes ev
-    → Does (turned x m ev) m m₁ r ys ys₁ → Goes t m m₁ r ys ys₁
-unfolding taking state_of
-goes_turned x m m₁ ys ys₁ t ev r f e p c d = goes_does m m₁ ys ys₁ t (state_of x m) r f e p (subst (λ (z : ToldIt). Does (taking detaching (state_of x m) z) m m₁ r ys ys₁) (sym c) d)
+pub goes_turned : (x : Machine) (m m₁ ys ys₁ : List ℕ) (t ev : Event) (r : Told) → memory_fits m ≡ true → decode m ≡ state_of x m → proper_event t ≡ true → t ≡ ev
+    → Does (turned x m ev) m m₁ r ys ys₁ → Goes (comes t) m m₁ r ys ys₁
+unfolding taking state_of proper_told
+goes_turned x m m₁ ys ys₁ t ev r f e p c d = goes_does m m₁ ys ys₁ (comes t) (state_of x m) r f e p (subst (λ (z : Event). Does (taking detaching (state_of x m) (comes z)) m m₁ r ys ys₁) (sym c) d)
 
-pub goes_on : (x : Machine) (m m₁ ys ys₁ : List ℕ) (t : ToldIt) (r : Told) → memory_fits m ≡ true → decode m ≡ state_of x m → proper_told t ≡ true → t ≡ next
-    → Does (going (glass_of x m) (view_of x m)) m m₁ r ys ys₁ → Goes t m m₁ r ys ys₁
-unfolding taking state_of
-goes_on x m m₁ ys ys₁ t r f e p c d = goes_does m m₁ ys ys₁ t (state_of x m) r f e p (subst (λ (z : ToldIt). Does (taking detaching (state_of x m) z) m m₁ r ys ys₁) (sym c) d)
+pub goes_on : (x : Machine) (m m₁ ys ys₁ : List ℕ) (r : Told) → memory_fits m ≡ true → decode m ≡ state_of x m
+    → Does (going (glass_of x m) (view_of x m)) m m₁ r ys ys₁ → Goes next m m₁ r ys ys₁
+unfolding taking state_of proper_told
+goes_on x m m₁ ys ys₁ r f e d = goes_does m m₁ ys ys₁ next (state_of x m) r f e refl d
+
+-- no key is known to a program's end
+pub end_turned : (x : Machine) (m m₁ ys ys₁ : List ℕ) (i : ℕ) (r : Told) → Does (turned_by core x m (gone i)) m m₁ r ys ys₁ → Does (turned x m (gone i)) m m₁ r ys ys₁
+unfolding turn
+end_turned x m m₁ ys ys₁ i r d = d
 
 rests : (m ys : List ℕ) (t : ToldIt) → (memory_fits m && proper_told t) ≡ false → Goes t m m Wait ys ys
 unfolding ActTold
@@ -57,8 +68,9 @@ rests m ys t e =
     let q = own_rests m t e in
     record { memory = sym (ap (λ (z : Step). z.memory) q); act = subst (λ (z : Act). ActTold z Wait ys ys) (sym (ap (λ (z : Step). z.act) q)) (refl, refl) }
 
-pub rests_odd : (m ys : List ℕ) (t : ToldIt) → proper_told t ≡ false → Goes t m m Wait ys ys
-rests_odd m ys t e = rests m ys t (and_right (memory_fits m) (proper_told t) e)
+pub rests_odd : (m ys : List ℕ) (ev : Event) → proper_event ev ≡ false → Goes (comes ev) m m Wait ys ys
+unfolding proper_told
+rests_odd m ys ev e = rests m ys (comes ev) (and_right (memory_fits m) (proper_event ev) e)
 
 pub rests_not : (m ys : List ℕ) (t : ToldIt) → memory_fits m ≡ false → Goes t m m Wait ys ys
 rests_not m ys t e = rests m ys t (and_left (memory_fits m) (proper_told t) e)
@@ -67,35 +79,31 @@ rests_not m ys t e = rests m ys t (and_left (memory_fits m) (proper_told t) e)
 abbrev pub first_state : State
 first_state = state at_first (fresh_view 1 1)
 
-pub first_key : (c : ℕ) → taking detaching first_state (comes (key c)) ≡ out at_first (fresh_view 1 1) wait
-unfolding taking said_or_going going view_at turn
-first_key c = refl
-
-pub first_bytes : (i : ℕ) (bs : List ℕ) → taking detaching first_state (comes (from i bs)) ≡ out at_first (fresh_view 1 1) wait
+first_quiet : (x : Coming) (bs : List ℕ) → ((w h : ℕ) → x ≡ Look w h → ⊥) → taking detaching first_state (comes (event_of x bs)) ≡ out at_first (fresh_view 1 1) wait
 unfolding taking said_or_going going view_at turn on_bytes
-first_bytes i bs = refl
-
-pub first_end : (i : ℕ) → taking detaching first_state (comes (gone i)) ≡ out at_first (fresh_view 1 1) wait
-unfolding taking said_or_going going view_at turn
-first_end i = refl
-
-pub first_next : taking detaching first_state next ≡ out at_first (fresh_view 1 1) wait
-unfolding taking going
-first_next = refl
+first_quiet (Key c) bs n = refl
+first_quiet (From i) bs n = refl
+first_quiet (Gone i) bs n = refl
+first_quiet (Look w h) bs n = absurd (n w h refl)
 
 -- nothing is done
-pub goes_quiet : (m m₁ ys : List ℕ) (t u : ToldIt) (r : Told) → memory_fits m ≡ true → decode m ≡ first_state → proper_told t ≡ true → t ≡ u
-    → taking detaching first_state u ≡ out at_first (fresh_view 1 1) wait → Does (out at_first (fresh_view 1 1) wait) m m₁ r ys ys → Goes t m m₁ r ys ys
-goes_quiet m m₁ ys t u r f e p c q d =
-    goes_does m m₁ ys ys t first_state r f e p (subst (λ (o : Out). Does o m m₁ r ys ys) (sym (ap (taking detaching first_state) c ∙ q)) d)
+pub goes_quiet : (m m₁ ys : List ℕ) (x : Coming) (bs : List ℕ) (r : Told) → memory_fits m ≡ true → decode m ≡ first_state → proper_event (event_of x bs) ≡ true
+    → ((w h : ℕ) → x ≡ Look w h → ⊥) → Does (out at_first (fresh_view 1 1) wait) m m₁ r ys ys → Goes (comes (event_of x bs)) m m₁ r ys ys
+unfolding proper_told
+goes_quiet m m₁ ys x bs r f e p n d =
+    goes_does m m₁ ys ys (comes (event_of x bs)) first_state r f e p (subst (λ (o : Out). Does o m m₁ r ys ys) (sym (first_quiet x bs n)) d)
+
+pub goes_on_quiet : (m m₁ ys : List ℕ) (r : Told) → memory_fits m ≡ true → decode m ≡ first_state → Does (out at_first (fresh_view 1 1) wait) m m₁ r ys ys → Goes next m m₁ r ys ys
+unfolding taking going proper_told
+goes_on_quiet m m₁ ys r f e d = goes_does m m₁ ys ys next first_state r f e refl d
 
 -- somebody attaches: what the viewer's screen held is of no matter
-pub goes_first : (x : Machine) (m m₁ ys : List ℕ) (t : ToldIt) (w h : ℕ) (r : Told) → memory_fits m ≡ true → decode m ≡ first_state → proper_told t ≡ true → t ≡ comes (attach w h) → AtFirst x
-    → Does (turned x m (attach w h)) m m₁ r ys ys → Goes t m m₁ r ys ys
-unfolding taking view_at
+pub goes_first : (x : Machine) (m m₁ ys : List ℕ) (t : Event) (w h : ℕ) (r : Told) → memory_fits m ≡ true → decode m ≡ first_state → proper_event t ≡ true → t ≡ attach w h → AtFirst x
+    → Does (turned x m (attach w h)) m m₁ r ys ys → Goes (comes t) m m₁ r ys ys
+unfolding taking view_at proper_told
 goes_first x m m₁ ys t w h r f e p c a d =
-    goes_does m m₁ ys ys t first_state r f e p
-    (subst (λ (z : ToldIt). Does (taking detaching first_state z) m m₁ r ys ys) (sym c)
+    goes_does m m₁ ys ys (comes t) first_state r f e p
+    (subst (λ (z : Event). Does (taking detaching first_state (comes z)) m m₁ r ys ys) (sym c)
     (subst (λ (g : Glass). Does (then_goes (fresh_view w h) (turn detaching g (attach w h))) m m₁ r ys ys) (a.glass m) d))
 
 -- the machine as it is at first, stored
@@ -117,21 +125,69 @@ settles_in x m m₁ m₂ ys l a b c =
       act = (refl, refl);
     }
 
--- THE CONTRACT
-pub fits_is : (m : List ℕ) (kind : ℕ) (ys : List ℕ) → step_fits detaching_machine m kind ys ≡ (eqb (length m) 238304 && (leb kind 4 && leb 65536 (length ys)))
+-- THE CONTRACTS
+-- over the memory as an array and the first 65,536 bytes of a row, and over both as they were lent
+goes_lent : (t : ToldIt) (m array m₁ ys first front : List ℕ) (r : Told) → IsWholeChunk m array 238304 → IsFirstChunk ys first 65536 → length front ≡ 65536
+    → Goes t array m₁ r first front → Goes t m m₁ r ys (front ++ drop 65536 ys)
+goes_lent t m array m₁ ys first front r w f l g₀ =
+    let g₁ = subst (λ (y : List ℕ). Goes t y m₁ r first front) w.same g₀ in
+    let g = subst (λ (y : List ℕ). Goes t m m₁ r y front) f.same g₁ in
+    record { memory = g.memory; act = act_lent ys front 65536 f.enough l _ r g.act }
+
+pub first_long : (ys first : List ℕ) (n : ℕ) → IsFirstChunk ys first n → length first ≡ n
+first_long ys first n f = ap length f.same ∙ (length-take n ys ∙ (let e = f.enough in omega arith))
+
+sizes_are : (m ys : List ℕ) → sizes_fit detaching_machine m ys ≡ (eqb (length m) 238304 && leb 65536 (length ys))
+sizes_are m ys = rw detaching_start
+
+pub sizes_right : (m array ys first : List ℕ) → IsWholeChunk m array 238304 → IsFirstChunk ys first 65536 → sizes_fit detaching_machine m ys ≡ true
+sizes_right m array ys first w f = sizes_are m ys ∙ and_from _ _ (eq-eqb _ _ w.long) (le-leb _ _ f.enough)
+
+pub sizes_wrong : (m ys : List ℕ) → (length m ≡ 238304 → ⊥) → sizes_fit detaching_machine m ys ≡ false
+sizes_wrong m ys n = sizes_are m ys ∙ and_left _ _ (ne_eqb _ _ n)
+
+pub row_short : (m ys : List ℕ) → length ys < 65536 → sizes_fit detaching_machine m ys ≡ false
+row_short m ys h = sizes_are m ys ∙ and_right (eqb (length m) 238304) _ (lt-leb _ _ h)
+
+pub tells : (t : ToldIt) (m array m₁ ys first front : List ℕ) (r : Told) → IsWholeChunk m array 238304 → IsFirstChunk ys first 65536 → length front ≡ 65536
+    → Goes t array m₁ r first front → ToldSays detaching_machine t m ys (sizes_fit detaching_machine m ys) r m₁ (front ++ drop 65536 ys)
+unfolding ToldSays
+tells t m array m₁ ys first front r w f l g₀ =
+    let g = goes_lent t m array m₁ ys first front r w f l g₀ in
+    subst (λ (b : Bool). ToldSays detaching_machine t m ys b r m₁ (front ++ drop 65536 ys)) (sym (sizes_right m array ys first w f)) (g.memory, g.act)
+
+pub tells_no : (t : ToldIt) (m m₁ ys ys₁ : List ℕ) → sizes_fit detaching_machine m ys ≡ false → m₁ ≡ m → ys₁ ≡ ys → ToldSays detaching_machine t m ys (sizes_fit detaching_machine m ys) (No 0) m₁ ys₁
+unfolding ToldSays
+tells_no t m m₁ ys ys₁ s e f = subst (λ (b : Bool). ToldSays detaching_machine t m ys b (No 0) m₁ ys₁) (sym s) (refl, e, f)
+
+fits_is : (m : List ℕ) (kind : ℕ) (ys : List ℕ) → step_fits detaching_machine m kind ys ≡ (eqb (length m) 238304 && (leb kind 4 && leb 65536 (length ys)))
 unfolding step_fits
 fits_is m kind ys = rw detaching_start
 
-pub fits_long : (m : List ℕ) (kind : ℕ) (ys : List ℕ) → step_fits detaching_machine m kind ys ≡ true → (length m ≡ 238304) × (65536 ≤ length ys)
-fits_long m kind ys e =
-    let a = and_parts (eqb (length m) 238304) _ (sym (fits_is m kind ys) ∙ e) in
-    let b = and_parts (leb kind 4) _ a.1 in
-    (eqb-true _ _ a.0, leb-true _ _ b.1)
-
-pub no_says : (m : List ℕ) (kind a b : ℕ) (bs ys : List ℕ) (f : Bool) → f ≡ false → StepSays detaching_machine m kind a b bs ys f (No 0) m ys
+-- told in numbers
+pub steps : (t : ToldIt) (m array m₁ ys first front : List ℕ) (kind a b : ℕ) (bs : List ℕ) (r : Told) → IsWholeChunk m array 238304 → IsFirstChunk ys first 65536 → length front ≡ 65536
+    → kind ≤ 4 → t ≡ told_of kind a b bs → Goes t array m₁ r first front
+    → StepSays detaching_machine m kind a b bs ys (step_fits detaching_machine m kind ys) r m₁ (front ++ drop 65536 ys)
 unfolding StepSays
-no_says m kind a b bs ys f e = subst (λ (v : Bool). StepSays detaching_machine m kind a b bs ys v (No 0) m ys) (sym e) (refl, refl, refl)
+steps t m array m₁ ys first front kind a b bs r w f l k e g₀ =
+    let g₁ = subst (λ (u : ToldIt). Goes u array m₁ r first front) e g₀ in
+    let g = goes_lent (told_of kind a b bs) m array m₁ ys first front r w f l g₁ in
+    let s : step_fits detaching_machine m kind ys ≡ true = fits_is m kind ys ∙ and_from _ _ (eq-eqb _ _ w.long) (and_from _ _ (le-leb _ _ k) (le-leb _ _ f.enough)) in
+    subst (λ (v : Bool). StepSays detaching_machine m kind a b bs ys v r m₁ (front ++ drop 65536 ys)) (sym s) (g.memory, g.act)
 
-pub goes_says : (m m₁ : List ℕ) (kind a b : ℕ) (bs ys ys₁ : List ℕ) (f : Bool) (r : Told) → f ≡ true → Goes (told_of kind a b bs) m m₁ r ys ys₁ → StepSays detaching_machine m kind a b bs ys f r m₁ ys₁
+steps_no : (m m₁ : List ℕ) (kind a b : ℕ) (bs ys ys₁ : List ℕ) → (eqb (length m) 238304 && (leb kind 4 && leb 65536 (length ys))) ≡ false → m₁ ≡ m → ys₁ ≡ ys
+    → StepSays detaching_machine m kind a b bs ys (step_fits detaching_machine m kind ys) (No 0) m₁ ys₁
 unfolding StepSays
-goes_says m m₁ kind a b bs ys ys₁ f r e d = subst (λ (v : Bool). StepSays detaching_machine m kind a b bs ys v r m₁ ys₁) (sym e) (d.memory, d.act)
+steps_no m m₁ kind a b bs ys ys₁ s e f = subst (λ (v : Bool). StepSays detaching_machine m kind a b bs ys v (No 0) m₁ ys₁) (sym (fits_is m kind ys ∙ s)) (refl, e, f)
+
+pub other_size : (m : List ℕ) (kind a b : ℕ) (bs ys : List ℕ) → (length m ≡ 238304 → ⊥) → StepSays detaching_machine m kind a b bs ys (step_fits detaching_machine m kind ys) (No 0) m ys
+other_size m kind a b bs ys n = steps_no m m kind a b bs ys ys (and_left _ _ (ne_eqb _ _ n)) refl refl
+
+pub short_row : (m array : List ℕ) (kind a b : ℕ) (bs ys : List ℕ) → IsWholeChunk m array 238304 → length ys < 65536
+    → StepSays detaching_machine m kind a b bs ys (step_fits detaching_machine m kind ys) (No 0) array ys
+short_row m array kind a b bs ys w h = steps_no m array kind a b bs ys ys (and_right (eqb (length m) 238304) _ (and_right (leb kind 4) _ (lt-leb _ _ h))) w.same refl
+
+pub other_kind : (m array ys first : List ℕ) (kind a b : ℕ) (bs : List ℕ) → IsWholeChunk m array 238304 → IsFirstChunk ys first 65536 → 4 < kind
+    → StepSays detaching_machine m kind a b bs ys (step_fits detaching_machine m kind ys) (No 0) array (first ++ drop 65536 ys)
+other_kind m array ys first kind a b bs w f h =
+    steps_no m array kind a b bs ys _ (and_right (eqb (length m) 238304) _ (and_left _ _ (lt-leb _ _ h))) w.same (ap (λ (z : List ℕ). z ++ drop 65536 ys) f.same ∙ take-append-drop 65536 ys)

@@ -1,12 +1,15 @@
--- What has come, by the numbers that a step is told.
-use Rattle.std.proofs.Common.{◌≡◌, ℕ, suc, ◌<◌, ◌≤◌, true, false, ◌&&◌, ltb, leb, List, [], ◌∷◌, length, get_or, sym, refl, ap, arith, w8, Fits}
-use Rattle.std.proofs.lemmas.Bool.{and_from, and_left, and_right, lt-ltb, le-ltb, le-leb, lt-leb, ne_eqb}
+-- What has come, by the numbers that a step is told, and what of it is proper.
+use Rattle.std.proofs.Common.{◌≡◌, ℕ, suc, ◌<◌, ◌≤◌, Bool, true, false, ◌&&◌, ltb, leb, List, [], ◌∷◌, length, Some, None, Option, IsSome, MatchOption, rules, get_or, sym, refl, ap, subst, arith, w8, Fits}
+use Rattle.std.proofs.lemmas.Bool.{and_from, and_parts, lt-ltb, le-ltb, leb-true, both_ways}
 use Rattle.std.proofs.lemmas.Bool.Decides.{nat_tests}
 use Rattle.meaning.specs.Words.{every}
 use Rattle.meaning.specs.Panes.{key, from, gone, attach}
 use Rattle.meaning.specs.Promise.{comes, next, proper_event}
 use Rattle.meaning.specs.Entry.{told_of}
-use Rattle.engine.specs.State.{proper_told}
+use Rattle.grid.specs.declared.size.Size.{Size}
+use Rattle.live.specs.Coming.{event_of}
+use Rattle.live.specs.declared.coming.Coming.{Coming}
+use Rattle.live.specs.declared.coming.Coming.TheVariants.{Key, From, Gone, Look}
 
 pub told_key : (k a b : ℕ) (bs : List ℕ) → k ≡ 0 → comes (key a) ≡ told_of k a b bs
 unfolding told_of
@@ -24,49 +27,49 @@ pub told_attach : (k a b : ℕ) (bs : List ℕ) → k ≡ 3 → comes (attach a 
 unfolding told_of
 told_attach k a b bs e = sym (ap (λ (z : ℕ). told_of z a b bs) e)
 
-pub told_next : (k a b : ℕ) (bs : List ℕ) → (k ≡ 0 → ⊥) → (k ≡ 1 → ⊥) → (k ≡ 2 → ⊥) → (k ≡ 3 → ⊥) → next ≡ told_of k a b bs
+pub told_next : (k a b : ℕ) (bs : List ℕ) → k ≡ 4 → next ≡ told_of k a b bs
 unfolding told_of
-told_next k a b bs p q r s = simp (ne_eqb k 0 p, ne_eqb k 1 q, ne_eqb k 2 r, ne_eqb k 3 s)
+told_next k a b bs e = sym (ap (λ (z : ℕ). told_of z a b bs) e)
 
 -- what a slice of bytes holds are bytes
-pub bytes_from_fits : (bs : List ℕ) → ((i : ℕ) → Fits w8 (get_or bs i 0)) → every (λ b. ltb b 256) bs ≡ true
+bytes_from_fits : (bs : List ℕ) → ((i : ℕ) → Fits w8 (get_or bs i 0)) → every (λ b. ltb b 256) bs ≡ true
 bytes_from_fits [] f = refl
 bytes_from_fits (b ∷ bs) f = and_from (ltb b 256) _ (lt-ltb b 256 (f 0).fits) (bytes_from_fits bs (λ i. f (suc i)))
 
+and_true : (a b : Bool) → b ≡ true → a ≡ (a && b)
+and_true true b e = sym e
+and_true false b e = refl
+
 -- what is proper, and what is not
-pub proper_key : (c : ℕ) → c < 256 → proper_told (comes (key c)) ≡ true
-unfolding proper_told proper_event
-proper_key c h = lt-ltb c 256 h
+pub key_proper : (x : Coming) (bs : List ℕ) (c : ℕ) (b : Bool) → x ≡ Key c → b ≡ ltb c 256 → b ≡ proper_event (event_of x bs)
+unfolding proper_event
+key_proper x bs c b e q = rw e q
 
-pub odd_key : (c : ℕ) → 256 ≤ c → proper_told (comes (key c)) ≡ false
-unfolding proper_told proper_event
-odd_key c h = le-ltb c 256 h
+pub from_proper : (x : Coming) (bs : List ℕ) (i : ℕ) → x ≡ From i → ((j : ℕ) → Fits w8 (get_or bs j 0)) → leb (length bs) 4096 ≡ proper_event (event_of x bs)
+unfolding proper_event
+from_proper x bs i e f = rw e (and_true (leb (length bs) 4096) _ (bytes_from_fits bs f))
 
-pub proper_bytes : (i : ℕ) (bs : List ℕ) → length bs ≤ 4096 → every (λ b. ltb b 256) bs ≡ true → proper_told (comes (from i bs)) ≡ true
-unfolding proper_told proper_event
-proper_bytes i bs h f = and_from (leb (length bs) 4096) _ (le-leb (length bs) 4096 h) f
+pub gone_proper : (x : Coming) (bs : List ℕ) (i : ℕ) → x ≡ Gone i → true ≡ proper_event (event_of x bs)
+unfolding proper_event
+gone_proper x bs i e = rw e
 
-pub odd_bytes : (i : ℕ) (bs : List ℕ) → 4096 < length bs → proper_told (comes (from i bs)) ≡ false
-unfolding proper_told proper_event
-odd_bytes i bs h = and_left (leb (length bs) 4096) _ (lt-leb (length bs) 4096 h)
+pub look_proper : (x : Coming) (bs : List ℕ) (w h : ℕ) (b : Bool) → x ≡ Look w h → b ≡ ((leb 1 w && leb w 200) && (leb 2 h && leb h 60)) → b ≡ proper_event (event_of x bs)
+unfolding proper_event
+look_proper x bs w h b e q = rw e q
 
-pub proper_end : (i : ℕ) → proper_told (comes (gone i)) ≡ true
-unfolding proper_told proper_event
-proper_end i = refl
+pub odd_key : (c : ℕ) → (c < 256 → ⊥) → proper_event (key c) ≡ false
+unfolding proper_event
+odd_key c h = le-ltb c 256 (omega arith)
 
-pub proper_next : proper_told next ≡ true
-unfolding proper_told
-proper_next = refl
+pub few_bytes : (x : Coming) (bs : List ℕ) (i : ℕ) → x ≡ From i → proper_event (event_of x bs) ≡ true → length bs ≤ 4096
+unfolding proper_event
+few_bytes x bs i e p = leb-true _ _ (and_parts (leb (length bs) 4096) _ (subst (λ (y : Coming). proper_event (event_of y bs) ≡ true) e p)).0
 
--- a size that a screen can have, with a row for the status line
-pub proper_size : (w h : ℕ) → (ltb 0 w && (leb w 200 && (ltb 0 h && leb h 60))) ≡ true → 2 ≤ h → proper_told (comes (attach w h)) ≡ true
-unfolding proper_told proper_event
-proper_size w h e k = grind (arith, nat_tests)
+-- a size that a screen can have
+pub some_size : (o : Option Size) (b : Bool) (P : Size → Type 0) → MatchOption o (b ≡ false) P → b ≡ true → IsSome o
+some_size None b P h e = absurd (both_ways b h e)
+some_size (Some s) b P h e = search rules
 
-pub low_size : (w h : ℕ) → h < 2 → proper_told (comes (attach w h)) ≡ false
-unfolding proper_told proper_event
-low_size w h k = and_right (leb 1 w && leb w 200) _ (and_left (leb 2 h) _ (lt-leb 2 h k))
-
-pub odd_size : (w h : ℕ) → (ltb 0 w && (leb w 200 && (ltb 0 h && leb h 60))) ≡ false → 2 ≤ h → proper_told (comes (attach w h)) ≡ false
-unfolding proper_told proper_event
-odd_size w h e k = grind (arith, nat_tests)
+pub proper_size : (w h : ℕ) → proper_event (attach w h) ≡ true → (ltb 0 w && (leb w 200 && (ltb 0 h && leb h 60))) ≡ true
+unfolding proper_event
+proper_size w h e = grind (arith, nat_tests)

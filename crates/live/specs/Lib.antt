@@ -1,4 +1,5 @@
 pub mod Turned
 pub mod Fits
 pub mod Answered
-pub mod Means
+pub mod Goes
+pub mod Coming

@@ -9,7 +9,7 @@ ghost use Rattle.turns.specs.Does.{Does};
 ghost use Rattle.live.specs.Turned.{turned, Looked};
 ghost use Rattle.live.specs.Fits.{Fitted};
 
-use crate::show::advance;
+use engine::{MEMORY, OUT};
 use grid::cell::BLANK;
 use grid::size::Size;
 use machine::state::{Held, Machine};
@@ -17,6 +17,7 @@ use machine::{store, store_with_next};
 use meaning::Told;
 use render::pen::Pen;
 use terminal::state::Terminal;
+use turns::show::advance;
 
 // A pane that is alone has all rows but the last.
 fn place_of(size: Size) -> Size
@@ -30,8 +31,7 @@ fn place_of(size: Size) -> Size
 }
 
 // The viewer's screen is taken to be blank.
-pub(crate) fn clear_view(memory: &mut [u64], size: Size)
-    requires { length memory.old ≡ 238304 }
+pub(crate) fn clear_view(memory: &mut [u64; MEMORY], size: Size)
     ensures { memory.new ≡ over memory.old 2304 (so_many (size.high * size.wide) blank_number) }
 {
     let n = size.cells();
@@ -39,23 +39,14 @@ pub(crate) fn clear_view(memory: &mut [u64], size: Size)
 }
 
 // The terminal's cells go through a row of their own, since the new ones begin where the old ones do.
-fn fit_through(memory: &mut [u64], terminal: &mut Terminal, size: Size, row: &mut [u64])
-    requires memory { length memory.old ≡ 238304 }
-    requires row { length row.old ≡ 12000 }
+fn fit(memory: &mut [u64; MEMORY], terminal: &mut Terminal, size: Size)
     ensures { Fitted terminal.old memory.old size.wide size.high terminal.new memory.new }
 {
+    let mut row = [0u64; 12000];
     let k = terminal.size.cells();
     let n = size.cells();
     row[0..k].copy_from_slice(&memory[38304..38304 + k]);
     terminal.resize(&row[0..k], size, &mut memory[38304..38304 + n]);
-}
-
-fn fit(memory: &mut [u64], terminal: &mut Terminal, size: Size)
-    requires { length memory.old ≡ 238304 }
-    ensures { Fitted terminal.old memory.old size.wide size.high terminal.new memory.new }
-{
-    let mut row = [0u64; 12000];
-    fit_through(memory, terminal, size, &mut row);
 }
 
 // The machine of whoever has just attached.
@@ -82,18 +73,14 @@ fn pane_and_size(id: u64, size: Size) -> u64
 }
 
 // The first who attaches gets a pane, whose program is started.
-pub(crate) fn attach_first(memory: &mut [u64], x: Machine, size: Size) -> Told
-    requires memory { length memory.old ≡ 238304 }
-    requires next { x.next < 2 ^ 47 }
-    requires none { x.pane ≡ None }
+pub(crate) fn attach_first(memory: &mut [u64; MEMORY], x: Machine, size: Size) -> Told
+    requires { x.pane ≡ None }
     ensures { (ys : List ℕ) → Does (turned x memory.old (attach size.wide size.high)) memory.old memory.new result ys ys }
 {
     let id = x.next;
     let place = place_of(size);
     let n = place.cells();
-    let Some(terminal) = Terminal::start(place, &mut memory[38304..38304 + n]) else {
-        return Told::No(0);
-    };
+    let terminal = Terminal::start(place, &mut memory[38304..38304 + n]).unwrap();
     clear_view(memory, size);
     let y = looked_at(size, id, Held { id, terminal });
     store_with_next(memory, y, id + 1);
@@ -107,8 +94,7 @@ fn same_size(a: Size, b: Size) -> bool
 }
 
 // The pane gets another size, which is told.
-fn resize_pane(memory: &mut [u64], x: Machine, p: Held, size: Size) -> Told
-    requires memory { length memory.old ≡ 238304 }
+fn resize_pane(memory: &mut [u64; MEMORY], x: Machine, p: Held, size: Size) -> Told
     requires pane { x.pane ≡ Some p }
     requires other { as_large (rect 0 0 size.wide (size.high - 1)) (terminal_in p.terminal memory.old) ≡ false }
     ensures { (ys : List ℕ) → Does (turned x memory.old (attach size.wide size.high)) memory.old memory.new result ys ys }
@@ -122,10 +108,14 @@ fn resize_pane(memory: &mut [u64], x: Machine, p: Held, size: Size) -> Told
 }
 
 // A pane that is as large as its place stays as it is.
-fn attach_again(memory: &mut [u64], x: Machine, p: Held, size: Size, out: &mut [u8]) -> Told
-    requires memory { length memory.old ≡ 238304 }
-    requires out { 65536 ≤ length out.old }
-    requires pane { x.pane ≡ Some p }
+fn attach_again(
+    memory: &mut [u64; MEMORY],
+    x: Machine,
+    p: Held,
+    size: Size,
+    out: &mut [u8; OUT],
+) -> Told
+    requires { x.pane ≡ Some p }
     ensures { Does (turned x memory.old (attach size.wide size.high)) memory.old memory.new result out.old out.new }
 {
     if same_size(p.terminal.size, place_of(size)) {
@@ -136,10 +126,12 @@ fn attach_again(memory: &mut [u64], x: Machine, p: Held, size: Size, out: &mut [
 }
 
 // Somebody attaches, or has another size.
-pub(crate) fn take_size(memory: &mut [u64], x: Machine, size: Size, out: &mut [u8]) -> Told
-    requires memory { length memory.old ≡ 238304 }
-    requires out { 65536 ≤ length out.old }
-    requires next { x.next < 2 ^ 47 }
+pub(crate) fn take_size(
+    memory: &mut [u64; MEMORY],
+    x: Machine,
+    size: Size,
+    out: &mut [u8; OUT],
+) -> Told
     ensures { Does (turned x memory.old (attach size.wide size.high)) memory.old memory.new result out.old out.new }
 {
     match x.pane {

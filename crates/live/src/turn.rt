@@ -1,27 +1,26 @@
 // One turn by what has come, over memory that holds a machine, or none yet.
-ghost use Rattle.std.specs.Prelude.{◌≡◌, ℕ, ◌≤◌, List, length};
-ghost use Rattle.meaning.specs.Panes.{at_first};
-ghost use Rattle.meaning.specs.Promise.{wait};
-ghost use Rattle.meaning.specs.Entry.{told_of};
+ghost use Rattle.std.specs.Prelude.{◌≡◌, ℕ, true, List, length, Some};
+ghost use Rattle.meaning.specs.Panes.{attach, at_first};
+ghost use Rattle.meaning.specs.Promise.{comes, wait, proper_event};
 ghost use Rattle.engine.specs.State.{out as out_of, fresh_view};
 ghost use Rattle.machine.specs.States.{Loads};
-ghost use Rattle.machine.specs.declared.state.Loaded.TheVariants.{First, Is};
+ghost use Rattle.machine.specs.declared.state.Loaded.TheVariants.{Is};
 ghost use Rattle.turns.specs.Does.{Does};
-ghost use Rattle.live.specs.Means.{Goes};
+ghost use Rattle.live.specs.Coming.{event_of};
+ghost use Rattle.live.specs.Goes.{Goes};
 ghost use Rattle.live.specs.Turned.{AtFirst};
 
 use crate::bytes::take_bytes;
-use crate::coming::Coming;
-use crate::ends::take_end;
+use crate::coming::{Coming, is_proper};
 use crate::keys::take_key;
-use crate::show::advance;
 use crate::sizes::{attach_first, clear_view, take_size};
-use crate::told::read;
+use engine::{MEMORY, OUT};
 use grid::size::Size;
-use machine::state::Machine;
-use machine::store;
+use machine::state::{Loaded, Machine};
+use machine::{load, store};
 use meaning::Told;
 use render::pen::Pen;
+use turns::ends::take_end;
 
 // The machine to which nothing has come yet.
 fn at_first() -> Machine
@@ -38,8 +37,7 @@ fn at_first() -> Machine
 }
 
 // Nothing is there yet, and nothing is done; but from now on the memory holds the machine.
-fn settle_in(memory: &mut [u64]) -> Told
-    requires { length memory.old ≡ 238304 }
+pub(crate) fn settle_in(memory: &mut [u64; MEMORY]) -> Told
     ensures { (ys : List ℕ) → Does (out_of at_first (fresh_view 1 1) wait) memory.old memory.new result ys ys }
 {
     let x = at_first();
@@ -48,43 +46,55 @@ fn settle_in(memory: &mut [u64]) -> Told
     Told::Wait
 }
 
-// The first thing that ever comes.
-pub(crate) fn begin(memory: &mut [u64], kind: u64, a: u64, b: u64, bytes: &[u8]) -> Told
-    requires long { length memory.old ≡ 238304 }
-    requires holds { Loads memory.old First }
-    ensures { (ys : List ℕ) → Goes (told_of kind a b bytes.now) memory.old memory.new result ys ys }
+// Columns and rows that are proper are a size.
+fn size_of(columns: u64, rows: u64) -> Size
+    requires { proper_event (attach columns rows) ≡ true }
+    ensures { (result.wide ≡ columns) × (result.high ≡ rows) }
 {
-    match read(kind, a, b, bytes) {
-        Coming::Attach(size) => attach_first(memory, at_first(), size),
-        Coming::Other => Told::Wait,
-        Coming::Key(_) => settle_in(memory),
-        Coming::From(_) => settle_in(memory),
-        Coming::Gone(_) => settle_in(memory),
-        Coming::Next => settle_in(memory),
-    }
+    Size::new(columns as usize, rows as usize).unwrap()
 }
 
 // What comes to a machine that is there.
-pub(crate) fn take(
-    memory: &mut [u64],
+fn turn(
+    memory: &mut [u64; MEMORY],
     x: Machine,
-    kind: u64,
-    a: u64,
-    b: u64,
+    coming: Coming,
     bytes: &[u8],
-    out: &mut [u8],
+    out: &mut [u8; OUT],
 ) -> Told
-    requires long { length memory.old ≡ 238304 }
-    requires out { 65536 ≤ length out.old }
-    requires holds { Loads memory.old (Is x) }
-    ensures { Goes (told_of kind a b bytes.now) memory.old memory.new result out.old out.new }
+    requires holds { Loads memory.old (Some (Is x)) }
+    requires proper { proper_event (event_of coming bytes.now) ≡ true }
+    ensures { Goes (comes (event_of coming bytes.now)) memory.old memory.new result out.old out.new }
 {
-    match read(kind, a, b, bytes) {
+    match coming {
         Coming::Key(c) => take_key(memory, x, c, out),
         Coming::From(id) => take_bytes(memory, x, id, bytes, out),
         Coming::Gone(id) => take_end(memory, x, id, out),
-        Coming::Attach(size) => take_size(memory, x, size, out),
-        Coming::Next => advance(memory, x, out),
-        Coming::Other => Told::Wait,
+        Coming::Look(columns, rows) => take_size(memory, x, size_of(columns, rows), out),
+    }
+}
+
+// One thing that comes. What is not proper changes nothing, nor does anything where the memory holds no state.
+pub(crate) fn take(
+    memory: &mut [u64; MEMORY],
+    coming: Coming,
+    bytes: &[u8],
+    out: &mut [u8; OUT],
+) -> Told
+    ensures does { Goes (comes (event_of coming bytes.now)) memory.old memory.new result out.old out.new }
+    ensures row { length out.new ≡ 65536 }
+{
+    if !is_proper(coming, bytes) {
+        return Told::Wait;
+    }
+    match load(memory) {
+        Some(Loaded::Is(x)) => turn(memory, x, coming, bytes, out),
+        Some(Loaded::First) => match coming {
+            Coming::Look(columns, rows) => {
+                attach_first(memory, at_first(), size_of(columns, rows))
+            }
+            _ => settle_in(memory),
+        },
+        None => Told::Wait,
     }
 }

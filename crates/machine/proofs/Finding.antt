@@ -14,7 +14,7 @@ use Rattle.engine.specs.Areas.{part}
 use Rattle.engine.specs.State.{state, fresh_view}
 use Rattle.engine.specs.Memory.{memory_size, header_at, screen_at, cells_at, head_fits, memory_fits, windows_from, panes_from, terminal_from, pen_from, decode}
 use Rattle.engine.proofs.Maps.{placed}
-use Rattle.machine.specs.States.{terminal_in, windows_of, panes_of, state_of, used_fits, used, PaneIs}
+use Rattle.machine.specs.States.{terminal_in, windows_of, panes_of, state_of, used_fits, used, PaneIs, Holds}
 use Rattle.machine.specs.declared.state.Held.{Held}
 use Rattle.machine.specs.declared.state.Machine.{Machine}
 
@@ -42,16 +42,27 @@ panes_found has i hd m (Some p) e =
 at_header : (m : List ℕ) (has i : ℕ) (o : Option Held) → PaneIs has i (part m 256 64) o → PaneIs has i (part m header_at 64) o
 at_header m has i o e = subst (λ (a : ℕ). PaneIs has i (part m a 64) o) (sym placed.header) e
 
+-- x read from the head hd of the memory m, with the header of its pane at 256
+pub record Read (hd m : List ℕ) (x : Machine) : Type 0 where
+  pub sized : (ltb 0 (get_or hd 1 0) && (leb (get_or hd 1 0) 200 && (ltb 0 (get_or hd 2 0) && leb (get_or hd 2 0) 60))) ≡ true
+  pub wide : x.size.wide ≡ get_or hd 1 0
+  pub high : x.size.high ≡ get_or hd 2 0
+  pub attached : x.attached ≡ yes (get_or hd 3 0)
+  pub prefix : x.prefix ≡ yes (get_or hd 4 0)
+  pub next : x.next ≡ get_or hd 5 0
+  pub pane : PaneIs (get_or hd 6 0) (get_or hd 7 0) (part m 256 64) x.pane
+  pub pen : x.pen ≡ pen_from hd
+  pub few : x.next < 2 ^ 47
+  pub few_panes : get_or hd 7 0 < 2 ^ 47
+
 -- a memory in use
-pub used_found : (m : List ℕ) (x : Machine) → x.size.wide ≡ get_or (part m 0 16) 1 0 → x.size.high ≡ get_or (part m 0 16) 2 0
-    → x.attached ≡ yes (get_or (part m 0 16) 3 0) → x.prefix ≡ yes (get_or (part m 0 16) 4 0) → x.next ≡ get_or (part m 0 16) 5 0
-    → PaneIs (get_or (part m 0 16) 6 0) (get_or (part m 0 16) 7 0) (part m 256 64) x.pane → x.pen ≡ pen_from (part m 0 16) → used m ≡ state_of x m
+used_found : (m : List ℕ) (x : Machine) → Read (part m 0 16) m x → used m ≡ state_of x m
 unfolding state_of
-used_found m x w h a p n o e =
-    let o₁ = at_header m (get_or (part m 0 16) 6 0) (get_or (part m 0 16) 7 0) x.pane o in
+used_found m x r =
+    let o₁ = at_header m (get_or (part m 0 16) 6 0) (get_or (part m 0 16) 7 0) x.pane r.pane in
     let ws = windows_found (get_or (part m 0 16) 6 0) (get_or (part m 0 16) 7 0) (part m header_at 64) x.pane o₁ in
     let ps = panes_found (get_or (part m 0 16) 6 0) (get_or (part m 0 16) 7 0) (part m header_at 64) m x.pane o₁ in
-    let w₁ = sym w in let h₁ = sym h in let a₁ = sym a in let p₁ = sym p in let n₁ = sym n in let e₁ = sym e in
+    let w₁ = sym r.wide in let h₁ = sym r.high in let a₁ = sym r.attached in let p₁ = sym r.prefix in let n₁ = sym r.next in let e₁ = sym r.pen in
     λ i. state (record { wide = w₁ i; high = h₁ i; attached = a₁ i; windows = ws i; at = 0; panes = ps i; next = n₁ i; prefix = p₁ i })
     (record { wide = w₁ i; high = h₁ i; cells = part m screen_at (h₁ i * w₁ i); pen = e₁ i })
 
@@ -59,15 +70,19 @@ pane_fits : (has i : ℕ) (hd : List ℕ) (o : Option Held) → PaneIs has i hd 
 pane_fits has i hd None e = or_left (not (yes has)) (header_fits hd) (not_from_false (yes has) e)
 pane_fits has i hd (Some p) e = or_right (not (yes has)) (header_fits hd) e.2.fits
 
-pub fits_used : (m : List ℕ) (o : Option Held)
-    → (ltb 0 (get_or (part m 0 16) 1 0) && (leb (get_or (part m 0 16) 1 0) 200 && (ltb 0 (get_or (part m 0 16) 2 0) && leb (get_or (part m 0 16) 2 0) 60))) ≡ true
-    → get_or (part m 0 16) 5 0 < 2 ^ 47 → get_or (part m 0 16) 7 0 < 2 ^ 47 → PaneIs (get_or (part m 0 16) 6 0) (get_or (part m 0 16) 7 0) (part m 256 64) o → used_fits m ≡ true
-fits_used m o s n k e =
-    and_from _ _ (and_from _ _ s (and_from _ _ (lt-ltb _ _ n) (lt-ltb _ _ k)))
-    (pane_fits (get_or (part m 0 16) 6 0) (get_or (part m 0 16) 7 0) (part m header_at 64) o (at_header m (get_or (part m 0 16) 6 0) (get_or (part m 0 16) 7 0) o e))
+fits_used : (m : List ℕ) (x : Machine) → Read (part m 0 16) m x → used_fits m ≡ true
+fits_used m x r =
+    and_from _ _ (and_from _ _ r.sized (and_from _ _ (lt-ltb _ _ (subst (λ (n : ℕ). n < 2 ^ 47) r.next r.few)) (lt-ltb _ _ r.few_panes)))
+    (pane_fits (get_or (part m 0 16) 6 0) (get_or (part m 0 16) 7 0) (part m header_at 64) x.pane (at_header m (get_or (part m 0 16) 6 0) (get_or (part m 0 16) 7 0) x.pane r.pane))
 
-pub no_pane : (m : List ℕ) → yes (get_or (part m 0 16) 6 0) ≡ true → header_fits (part m 256 64) ≡ false → used_fits m ≡ false
-no_pane m a b =
+pub found : (hd m : List ℕ) (x : Machine) → hd ≡ part m 0 16 → Read hd m x → Holds m x
+found hd m x e r₀ =
+    let r = subst (λ (h : List ℕ). Read h m x) e r₀ in
+    record { fits = fits_used m x r; same = used_found m x r; few = r.few }
+
+pub no_pane : (hd m : List ℕ) → hd ≡ part m 0 16 → yes (get_or hd 6 0) ≡ true → header_fits (part m 256 64) ≡ false → used_fits m ≡ false
+no_pane hd m e a₀ b =
+    let a : yes (get_or (part m 0 16) 6 0) ≡ true = ap (λ (h : List ℕ). yes (get_or h 6 0)) (sym e) ∙ a₀ in
     let b₁ : header_fits (part m header_at 64) ≡ false = ap (λ (k : ℕ). header_fits (part m k 64)) placed.header ∙ b in
     and_right (head_fits (part m 0 16)) _ (λ i. or (not (a i)) (b₁ i))
 

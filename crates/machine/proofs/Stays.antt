@@ -24,12 +24,11 @@ length_part m a n h = length-take-le n (drop a m) (let l = length-drop a m in om
 pub lent_over : (m : List ℕ) (a n : ℕ) (xs : List ℕ) → length xs ≡ n → put_mid a n m xs ≡ over m a xs
 lent_over m a n xs l = ap (λ (k : ℕ). take a m ++ (xs ++ drop k (drop a m))) (sym l)
 
-pub lent_put : (m : List ℕ) (a n : ℕ) (xs : List ℕ) → a + n ≤ length m → length xs ≡ n → small (put_mid a n m xs) ≡ true → put_mid a n m xs ≡ put m a xs
-lent_put m a n xs h l s =
-    let e = lent_over m a n xs l in
-    let s₁ : small (over m a xs) ≡ true = subst (λ (y : List ℕ). small y ≡ true) e s in
-    let s₂ : small xs ≡ true = subst (λ (y : List ℕ). small y ≡ true) (part_over m a xs (omega arith)) (small_part (over m a xs) a (length xs) s₁) in
-    e ∙ sym (put_over m a xs (omega arith) s₂)
+pub lent_put : (m : List ℕ) (a n : ℕ) (xs : List ℕ) → a + n ≤ length m → length xs ≡ n → small xs ≡ true → put_mid a n m xs ≡ put m a xs
+lent_put m a n xs h l s = lent_over m a n xs l ∙ sym (put_over m a xs (omega arith) s)
+
+pub part_lent : (m : List ℕ) (a n : ℕ) (xs : List ℕ) → a ≤ length m → length xs ≡ n → part (put_mid a n m xs) a n ≡ xs
+part_lent m a n xs h l = ap (λ (y : List ℕ). part y a n) (lent_over m a n xs l) ∙ (ap (part (over m a xs) a) (sym l) ∙ part_over m a xs h)
 
 pub part_lent_above : (m : List ℕ) (a n : ℕ) (xs : List ℕ) (b k : ℕ) → a ≤ length m → length xs ≡ n → a + n ≤ b → part (put_mid a n m xs) b k ≡ part m b k
 part_lent_above m a n xs b k h l g = ap (λ (y : List ℕ). part y b k) (lent_over m a n xs l) ∙ part_over_above m a xs b k h (omega arith)

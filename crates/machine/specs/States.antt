@@ -13,7 +13,7 @@ use Rattle.engine.specs.Memory.{memory_size, header_at, screen_at, cells_at, hea
 use Rattle.machine.specs.declared.state.Held.{Held}
 use Rattle.machine.specs.declared.state.Machine.{Machine}
 use Rattle.machine.specs.declared.state.Loaded.{Loaded}
-use Rattle.machine.specs.declared.state.Loaded.TheVariants.{Not, First, Is}
+use Rattle.machine.specs.declared.state.Loaded.TheVariants.{First, Is}
 
 -- the pane's terminal with its cells
 abbrev pub terminal_in : Terminal → List ℕ → Term
@@ -72,10 +72,10 @@ PaneLoads has i hd None = (yes has ≡ true) × (header_fits hd ≡ false)
 PaneLoads has i hd (Some o) = PaneIs has i hd o
 
 -- what was found in a memory
-abbrev pub Loads : List ℕ → Loaded → Type 0
-Loads m Not = memory_fits m ≡ false
-Loads m First = (memory_fits m ≡ true) × (decode m ≡ state at_first (fresh_view 1 1))
-Loads m (Is x) = (memory_fits m ≡ true) × (decode m ≡ state_of x m) × (x.next < 2 ^ 47)
+abbrev pub Loads : List ℕ → Option Loaded → Type 0
+Loads m None = memory_fits m ≡ false
+Loads m (Some First) = (memory_fits m ≡ true) × (decode m ≡ state at_first (fresh_view 1 1))
+Loads m (Some (Is x)) = (memory_fits m ≡ true) × (decode m ≡ state_of x m) × (x.next < 2 ^ 47)
 
 -- a memory of the right size holds the state of x with the cells as they were; any other stays
 pub record Stored (x : Machine) (old : List ℕ) (r : Bool) (new : List ℕ) : Type 0 where

@@ -7,6 +7,7 @@ ghost use Rattle.engine.specs.Memory.{header_at, pen_from};
 ghost use Rattle.machine.specs.States.{used_fits, Holds, PaneLoads, Loads};
 
 use crate::state::{Held, Loaded, Machine};
+use engine::MEMORY;
 use grid::cell::{Rendition, unpack};
 use grid::size::Size;
 use render::pen::Pen;
@@ -20,8 +21,7 @@ fn load_rendition(n: u64) -> Rendition
     unpack(n).rendition
 }
 
-fn load_pen(head: &[u64]) -> Pen
-    requires { length head.now ≡ 16 }
+fn load_pen(head: &[u64; 16]) -> Pen
     ensures { result ≡ pen_from head.now }
 {
     Pen {
@@ -46,11 +46,10 @@ fn load_pane(has: u64, id: u64, header: &[u64]) -> Option<Option<Held>>
 }
 
 // The state of a machine to which something has come.
-fn load_used(memory: &[u64]) -> Option<Machine>
-    requires { length memory.now ≡ 238304 }
+fn load_used(memory: &[u64; MEMORY]) -> Option<Machine>
     ensures { MatchOption result (used_fits memory.now ≡ false) (λ x. Holds memory.now x) }
 {
-    let head = &memory[0..16];
+    let head = memory.first_chunk::<16>().unwrap();
     let size = Size::new(head[1] as usize, head[2] as usize)?;
     let next = head[5];
     let id = head[7];
@@ -68,19 +67,14 @@ fn load_used(memory: &[u64]) -> Option<Machine>
     })
 }
 
-// What the memory holds.
-pub fn load(memory: &[u64]) -> Loaded
+// What the memory holds; nothing where it holds no state.
+pub fn load(memory: &[u64]) -> Option<Loaded>
     ensures { Loads memory.now result }
 {
-    if memory.len() != 238304 {
-        return Loaded::Not;
-    }
+    let memory = memory.as_array::<MEMORY>()?;
     match memory[0] {
-        0 => Loaded::First,
-        1 => match load_used(memory) {
-            Some(x) => Loaded::Is(x),
-            None => Loaded::Not,
-        },
-        _ => Loaded::Not,
+        0 => Some(Loaded::First),
+        1 => Some(Loaded::Is(load_used(memory)?)),
+        _ => None,
     }
 }

@@ -25,10 +25,9 @@ pub struct Machine {
     ghost next_ok: { next < 2 ^ 47 },
 }
 
-// What a memory holds: no state, that of a machine to which nothing has come yet, or another.
+// The state that a memory holds: that of a machine to which nothing has come yet, or another.
 #[derive(Clone, Copy)]
 pub enum Loaded {
-    Not,
     First,
     Is(Machine),
 }

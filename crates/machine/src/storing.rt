@@ -6,13 +6,8 @@ ghost use Rattle.engine.specs.Memory.{rendition_number, has_pane, pane_number, h
 ghost use Rattle.machine.specs.States.{panes_of, glass_of, view_of, with_next, Stored, StoredWithNext};
 
 use crate::state::{Held, Machine};
+use engine::MEMORY;
 use grid::cell::{Glyph, Rendition, pack};
-
-fn bit_of(b: bool) -> u64
-    ensures { result ≡ bit b }
-{
-    if b { 1 } else { 0 }
-}
 
 fn rendition_bits(r: Rendition) -> u64
     ensures { result ≡ rendition_number r }
@@ -42,34 +37,20 @@ fn head_numbers(x: Machine, next: u64) -> [u64; 16]
         1,
         x.size.wide as u64,
         x.size.high as u64,
-        bit_of(x.attached),
-        bit_of(x.prefix),
+        u64::from(x.attached),
+        u64::from(x.prefix),
         next,
         has,
         id,
         x.pen.row as u64,
         x.pen.col as u64,
-        bit_of(x.pen.pending),
+        u64::from(x.pen.pending),
         rendition_bits(x.pen.rendition),
-        bit_of(x.pen.visible),
+        u64::from(x.pen.visible),
         0,
         0,
         0,
     ]
-}
-
-// The header of the pane's terminal, where there is a pane.
-fn store_pane(memory: &mut [u64], pane: Option<Held>)
-    requires { length memory.old ≡ 238304 }
-    ensures done { (m : List ℕ) → memory.new ≡ with_header memory.old (panes_of pane m) }
-    ensures above { (b n : ℕ) → 320 ≤ b → part memory.new b n ≡ part memory.old b n }
-{
-    match pane {
-        Some(p) => {
-            let _ = header::store(p.terminal, &mut memory[256..320]);
-        }
-        None => {}
-    }
 }
 
 // Whether the memory has its size; if so it holds the state of `x` but with `next` as the number that the next pane gets, with the cells as they are, and
@@ -77,10 +58,12 @@ fn store_pane(memory: &mut [u64], pane: Option<Held>)
 pub fn store_with_next(memory: &mut [u64], x: Machine, next: u64) -> bool
     ensures { StoredWithNext x next memory.old result memory.new }
 {
-    if memory.len() != 238304 {
+    let Some(memory) = memory.as_mut_array::<MEMORY>() else {
         return false;
+    };
+    if let Some(p) = x.pane {
+        header::store(p.terminal, &mut memory[256..320]);
     }
-    store_pane(memory, x.pane);
     memory[0..16].copy_from_slice(&head_numbers(x, next));
     true
 }

@@ -13,6 +13,9 @@ use Rattle.machine.specs.declared.state.Machine.{Machine}
 use Rattle.turns.specs.Does.{Does}
 use Rattle.turns.specs.Turned.{then_goes, turned_by, emptied, Emptied}
 
+pub without_pane : (x : Machine) → Emptied x (record x { pane = None })
+without_pane x = record { glass = λ m. refl; view = λ m. refl }
+
 pub gone_last : (known : ℕ → Bool) (x : Machine) (p : Held) (m : List ℕ) → x.pane ≡ Some p → turn known (glass_of x m) (gone p.id) ≡ turn_of (emptied (glass_of x m)) (over ∷ [])
 unfolding turn settled fit_places places without gone_before ids
 gone_last known x p m e = rw e (simp (eq-eqb p.id p.id refl))

@@ -1,4 +1,5 @@
 pub mod Lent
+pub mod Taken
 pub mod Viewing
 pub mod Going
 pub mod Drawing

@@ -52,5 +52,8 @@ key_says known x y p m m₁ ys ys₁ c r q e h =
     ∙ ap (λ (v : View). out (with_prefix (glass_of x m) p) v (says (send (current (with_prefix (glass_of x m) p)).focus (c ∷ [])))) (q.view m)
     ∙ ap (then_goes (view_of x m)) (sym e)) h
 
+pub prefixed : (x : Machine) (p : Bool) → Prefixed x p (record x { prefix = p })
+prefixed x p = record { glass = λ m. refl; view = λ m. refl }
+
 pub as_it_is : (x : Machine) → Prefixed x x.prefix x
 as_it_is x = record { glass = λ m. refl; view = λ m. refl }

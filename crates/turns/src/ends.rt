@@ -2,49 +2,27 @@
 ghost use Rattle.std.specs.Prelude.{◌≡◌, ◌≤◌, length};
 ghost use Rattle.meaning.specs.Panes.{gone};
 ghost use Rattle.turns.specs.Does.{Does, Turns};
-ghost use Rattle.turns.specs.Turned.{turned, Emptied};
+ghost use Rattle.turns.specs.Turned.{turned};
 
 use crate::show::advance;
+use engine::{MEMORY, OUT};
 use machine::state::Machine;
 use machine::store;
 use meaning::Told;
 
-fn without_pane(x: Machine) -> Machine
-    ensures { Emptied x result }
-{
-    let Machine {
-        size,
-        attached,
-        prefix,
-        next,
-        pane: _,
-        pen,
-    } = x;
-    Machine {
-        size,
-        attached,
-        prefix,
-        next,
-        pane: None,
-        pen,
-    }
-}
-
 // The end of a program that has no pane changes nothing.
-fn take_end(memory: &mut [u64], x: Machine, id: u64, out: &mut [u8]) -> Told
-    requires memory { length memory.old ≡ 238304 }
-    requires out { 65536 ≤ length out.old }
-    ensures { Does (turned x memory.old (gone id)) memory.old memory.new result out.old out.new }
+pub fn take_end(memory: &mut [u64; MEMORY], x: Machine, id: u64, out: &mut [u8; OUT]) -> Told
+    ensures does { Does (turned x memory.old (gone id)) memory.old memory.new result out.old out.new }
+    ensures row { length out.new ≡ 65536 }
 {
     match x.pane {
-        Some(p) => {
-            if p.id == id {
-                store(memory, without_pane(x));
-                return Told::Over;
-            }
-            advance(memory, x, out)
+        Some(p) if p.id == id => {
+            let mut y = x;
+            y.pane = None;
+            store(memory, y);
+            Told::Over
         }
-        None => advance(memory, x, out),
+        _ => advance(memory, x, out),
     }
 }
 
@@ -52,11 +30,10 @@ fn take_end(memory: &mut [u64], x: Machine, id: u64, out: &mut [u8]) -> Told
 pub fn end(memory: &mut [u64], x: Machine, id: u64, out: &mut [u8]) -> Told
     ensures { Turns (turned x memory.old (gone id)) memory.old memory.new result out.old out.new }
 {
-    if memory.len() != 238304 {
-        return Told::No(0);
+    if let Some(memory) = memory.as_mut_array()
+        && let Some(out) = out.first_chunk_mut()
+    {
+        return take_end(memory, x, id, out);
     }
-    if out.len() < 65536 {
-        return Told::No(0);
-    }
-    take_end(memory, x, id, out)
+    Told::No(0)
 }

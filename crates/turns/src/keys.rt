@@ -6,9 +6,10 @@ ghost use Rattle.meaning.specs.Entry.{SaysTold};
 ghost use Rattle.engine.specs.State.{out as out_of};
 ghost use Rattle.machine.specs.States.{glass_of, view_of, windows_of};
 ghost use Rattle.turns.specs.Does.{Does, Turns};
-ghost use Rattle.turns.specs.Turned.{turned, Prefixed};
+ghost use Rattle.turns.specs.Turned.{turned};
 
 use crate::show::advance;
+use engine::{MEMORY, OUT};
 use machine::state::{Held, Machine};
 use machine::store;
 use meaning::Told;
@@ -24,40 +25,16 @@ fn focus(pane: Option<Held>) -> u64
     }
 }
 
-fn send_key(out: &mut [u8], id: u64, c: u8) -> Told
-    requires small { id < 2 ^ 47 }
-    requires out { 65536 ≤ length out.old }
+fn send_key(out: &mut [u8; OUT], id: u64, c: u8) -> Told
+    requires { id < 2 ^ 47 }
     ensures { SaysTold (send id (c ∷ [])) result out.old out.new }
 {
     out[0] = c;
     Told::Send(65536 * id + 1)
 }
 
-fn with_prefix(x: Machine, prefix: bool) -> Machine
-    ensures { Prefixed x prefix result }
-{
-    let Machine {
-        size,
-        attached,
-        prefix: _,
-        next,
-        pane,
-        pen,
-    } = x;
-    Machine {
-        size,
-        attached,
-        prefix,
-        next,
-        pane,
-        pen,
-    }
-}
-
 // The key is said to the pane with the focus.
-fn say_key(memory: &mut [u64], x: Machine, c: u8, out: &mut [u8]) -> Told
-    requires memory { length memory.old ≡ 238304 }
-    requires out { 65536 ≤ length out.old }
+fn say_key(memory: &mut [u64; MEMORY], x: Machine, c: u8, out: &mut [u8; OUT]) -> Told
     ensures { Does (out_of (glass_of x memory.old) (view_of x memory.old) (says (send (current (glass_of x memory.old)).focus (c ∷ []))))
         memory.old memory.new result out.old out.new }
 {
@@ -65,14 +42,13 @@ fn say_key(memory: &mut [u64], x: Machine, c: u8, out: &mut [u8]) -> Told
     send_key(out, focus(x.pane), c)
 }
 
-fn after_prefix(memory: &mut [u64], x: Machine, c: u8, out: &mut [u8]) -> Told
-    requires memory { length memory.old ≡ 238304 }
-    requires out { 65536 ≤ length out.old }
+fn after_prefix(memory: &mut [u64; MEMORY], x: Machine, c: u8, out: &mut [u8; OUT]) -> Told
     requires looked { x.attached ≡ true }
     requires prefix { x.prefix ≡ true }
     ensures { Does (turned x memory.old (key c)) memory.old memory.new result out.old out.new }
 {
-    let y = with_prefix(x, false);
+    let mut y = x;
+    y.prefix = false;
     if c == 1 {
         return say_key(memory, y, c, out);
     }
@@ -80,10 +56,9 @@ fn after_prefix(memory: &mut [u64], x: Machine, c: u8, out: &mut [u8]) -> Told
 }
 
 // Byte 1 is the prefix. While nobody looks a key does nothing.
-fn take_key(memory: &mut [u64], x: Machine, c: u8, out: &mut [u8]) -> Told
-    requires memory { length memory.old ≡ 238304 }
-    requires out { 65536 ≤ length out.old }
-    ensures { Does (turned x memory.old (key c)) memory.old memory.new result out.old out.new }
+pub fn take_key(memory: &mut [u64; MEMORY], x: Machine, c: u8, out: &mut [u8; OUT]) -> Told
+    ensures does { Does (turned x memory.old (key c)) memory.old memory.new result out.old out.new }
+    ensures row { length out.new ≡ 65536 }
 {
     if !x.attached {
         return advance(memory, x, out);
@@ -92,7 +67,9 @@ fn take_key(memory: &mut [u64], x: Machine, c: u8, out: &mut [u8]) -> Told
         return after_prefix(memory, x, c, out);
     }
     if c == 1 {
-        return advance(memory, with_prefix(x, true), out);
+        let mut y = x;
+        y.prefix = true;
+        return advance(memory, y, out);
     }
     say_key(memory, x, c, out)
 }
@@ -101,11 +78,10 @@ fn take_key(memory: &mut [u64], x: Machine, c: u8, out: &mut [u8]) -> Told
 pub fn press(memory: &mut [u64], x: Machine, c: u8, out: &mut [u8]) -> Told
     ensures { Turns (turned x memory.old (key c)) memory.old memory.new result out.old out.new }
 {
-    if memory.len() != 238304 {
-        return Told::No(0);
+    if let Some(memory) = memory.as_mut_array()
+        && let Some(out) = out.first_chunk_mut()
+    {
+        return take_key(memory, x, c, out);
     }
-    if out.len() < 65536 {
-        return Told::No(0);
-    }
-    take_key(memory, x, c, out)
+    Told::No(0)
 }

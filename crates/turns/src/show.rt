@@ -12,6 +12,7 @@ ghost use Rattle.meaning.specs.Screen.{Cell};
 ghost use Rattle.terminal.specs.Terms.{term_of};
 ghost use Rattle.turns.specs.Sent.{Closed, Sent, closing_at};
 
+use engine::{MEMORY, OUT};
 use grid::size::Size;
 use layout::{cursor_of, draw_pane};
 use machine::state::{Held, Machine};
@@ -23,9 +24,7 @@ use render::pen::Pen;
 use terminal::state::Terminal;
 
 // The picture of one pane, at the beginning of a row that is as long as the largest.
-fn draw_picture(memory: &[u64], size: Size, pane: &Terminal, row: &mut [u64])
-    requires memory { length memory.now ≡ 238304 }
-    requires row { length row.old ≡ 12000 }
+fn draw_picture(memory: &[u64; MEMORY], size: Size, pane: &Terminal, row: &mut [u64; 12000])
     ensures { (i n : ℕ) (p : Bool) → take (size.high * size.wide) row.new ≡ cells_of (picture (one_pane size.wide size.high i (terminal_in pane.now memory.now) n p)) }
 {
     let n = size.cells();
@@ -34,10 +33,13 @@ fn draw_picture(memory: &[u64], size: Size, pane: &Terminal, row: &mut [u64])
 }
 
 // One go of drawing, with room for 4,096 bytes.
-fn send_cells(memory: &mut [u64], row: &[u64], size: Size, pen: &mut Pen, out: &mut [u8]) -> usize
-    requires memory { length memory.old ≡ 238304 }
-    requires row { length row.now ≡ 12000 }
-    requires out { 65536 ≤ length out.old }
+fn send_cells(
+    memory: &mut [u64; MEMORY],
+    row: &[u64; 12000],
+    size: Size,
+    pen: &mut Pen,
+    out: &mut [u8; OUT],
+) -> usize
     ensures { Sent (drawn size.wide size.high (take (size.high * size.wide) row.now) 4096 (part memory.old 2304 (size.high * size.wide)) pen.old)
         memory.old memory.new pen.new result out.old out.new }
 {
@@ -62,34 +64,15 @@ fn send_cursor(size: Size, pane: &Terminal, pen: &mut Pen, out: &mut [u8]) -> us
 }
 
 // No cell differs: the cursor is put right, or there is nothing to do.
-fn close(memory: &mut [u64], x: Machine, p: Held, out: &mut [u8]) -> Told
-    requires memory { length memory.old ≡ 238304 }
-    requires out { 65536 ≤ length out.old }
+fn close(memory: &mut [u64; MEMORY], x: Machine, p: Held, out: &mut [u8; OUT]) -> Told
     requires pane { x.pane ≡ Some p }
     requires looked { x.attached ≡ true }
     ensures { Does (closing_out (glass_of x memory.old) (view_of x memory.old)) memory.old memory.new result out.old out.new }
 {
-    let Machine {
-        size,
-        attached,
-        prefix,
-        next,
-        pane,
-        mut pen,
-    } = x;
-    let k = send_cursor(size, &p.terminal, &mut pen, out);
+    let mut y = x;
+    let k = send_cursor(x.size, &p.terminal, &mut y.pen, out);
     if k > 0 {
-        store(
-            memory,
-            Machine {
-                size,
-                attached,
-                prefix,
-                next,
-                pane,
-                pen,
-            },
-        );
+        store(memory, y);
         return Told::Write(k as u64);
     }
     store(memory, x);
@@ -97,56 +80,31 @@ fn close(memory: &mut [u64], x: Machine, p: Held, out: &mut [u8]) -> Told
 }
 
 // Somebody looks at the pane: one go of drawing if cells differ, else the closing go.
-fn show(memory: &mut [u64], x: Machine, p: Held, out: &mut [u8]) -> Told
-    requires memory { length memory.old ≡ 238304 }
-    requires out { 65536 ≤ length out.old }
+fn show(memory: &mut [u64; MEMORY], x: Machine, p: Held, out: &mut [u8; OUT]) -> Told
     requires pane { x.pane ≡ Some p }
     requires looked { x.attached ≡ true }
     ensures { Does (going (glass_of x memory.old) (view_of x memory.old)) memory.old memory.new result out.old out.new }
 {
     let mut row = [0u64; 12000];
     draw_picture(memory, x.size, &p.terminal, &mut row);
-    let Machine {
-        size,
-        attached,
-        prefix,
-        next,
-        pane,
-        mut pen,
-    } = x;
-    let n = send_cells(memory, &row, size, &mut pen, out);
+    let mut y = x;
+    let n = send_cells(memory, &row, x.size, &mut y.pen, out);
     if n > 0 {
-        store(
-            memory,
-            Machine {
-                size,
-                attached,
-                prefix,
-                next,
-                pane,
-                pen,
-            },
-        );
+        store(memory, y);
         return Told::Write(n as u64);
     }
     close(memory, x, p, out)
 }
 
-// Nothing is done where nobody looks or there is no pane.
-pub(crate) fn advance(memory: &mut [u64], x: Machine, out: &mut [u8]) -> Told
-    requires memory { length memory.old ≡ 238304 }
-    requires out { 65536 ≤ length out.old }
-    ensures { Does (going (glass_of x memory.old) (view_of x memory.old)) memory.old memory.new result out.old out.new }
+// Nothing is done where nobody looks or there is no pane. The row's length is a clause of its own, since a caller doesn't get it from the type where the
+// array was borrowed out of a slice.
+pub fn advance(memory: &mut [u64; MEMORY], x: Machine, out: &mut [u8; OUT]) -> Told
+    ensures does { Does (going (glass_of x memory.old) (view_of x memory.old)) memory.old memory.new result out.old out.new }
+    ensures row { length out.new ≡ 65536 }
 {
     match x.pane {
-        Some(p) => {
-            if x.attached {
-                return show(memory, x, p, out);
-            }
-            store(memory, x);
-            Told::Wait
-        }
-        None => {
+        Some(p) if x.attached => show(memory, x, p, out),
+        _ => {
             store(memory, x);
             Told::Wait
         }
@@ -157,11 +115,10 @@ pub(crate) fn advance(memory: &mut [u64], x: Machine, out: &mut [u8]) -> Told
 pub fn go_on(memory: &mut [u64], x: Machine, out: &mut [u8]) -> Told
     ensures { Turns (going (glass_of x memory.old) (view_of x memory.old)) memory.old memory.new result out.old out.new }
 {
-    if memory.len() != 238304 {
-        return Told::No(0);
+    if let Some(memory) = memory.as_mut_array()
+        && let Some(out) = out.first_chunk_mut()
+    {
+        return advance(memory, x, out);
     }
-    if out.len() < 65536 {
-        return Told::No(0);
-    }
-    advance(memory, x, out)
+    Told::No(0)
 }

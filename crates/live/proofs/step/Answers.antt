@@ -1,26 +1,63 @@
-use Rattle.std.proofs.Common.{sym, ◌∙◌}
+use Rattle.std.proofs.Common.{ℕ, ap, ◌∙◌, arith}
+use Rattle.meaning.specs.Panes.{key}
+use Rattle.meaning.specs.Promise.{comes}
 use Rattle.engine.proofs.Whole.{whole_detaching}
-use Rattle.live.proofs.Stepping.{fits_long, no_says, goes_says, rests_not}
+use Rattle.live.proofs.Telling.{odd_key, told_key, told_from, told_gone, told_attach, told_next}
+use Rattle.live.proofs.Stepping.{rests_odd, first_long, steps, other_size, short_row, other_kind}
 use Rattle.live.proofs.step.Goals as goal
 
-pub returns-then-not-fits : goal.returns-then-not-fits
-returns-then-not-fits c = record { says = no_says _ _ _ _ _ _ _ (sym c.fits.ensures ∙ c.if-not-fits.true); whole = whole_detaching }
+pub returns-in_default-clause-says : goal.returns-in_default-clause-says
+returns-in_default-clause-says c = other_size _ _ _ _ _ _ c.in_default.ensures.cases
 
-pub begin-requires : goal.begin-requires
-begin-requires c =
-    let l = fits_long c.args.memory.now c.args.kind c.args.out.now (sym c.if-not-fits.ensures) in
-    record { long = l.0; holds = c.in-First.ensures }
+pub returns-in_default-first_chunk_mut-clause-says : goal.returns-in_default-first_chunk_mut-clause-says
+returns-in_default-first_chunk_mut-clause-says c = short_row _ _ _ _ _ _ _ c.in-Some.ensures.cases c.in_default-first_chunk_mut.ensures.cases
 
-pub take-requires : goal.take-requires
-take-requires c =
-    let l = fits_long c.args.memory.now c.args.kind c.args.out.now (sym c.if-not-fits.ensures) in
-    record { long = l.0; out = l.1; holds = c.in-Is.ensures }
+pub returns-in-Ok-clause-says : goal.returns-in-Ok-clause-says
+returns-in-Ok-clause-says c = steps _ _ _ _ _ _ _ _ _ _ _ _ c.in-Some.ensures.cases c.in-Some-first_chunk_mut.ensures.cases c.take.ensures.row (omega arith) (ap (λ (k : ℕ). comes (key k)) (omega (arith, c.in-Ok.ensures)) ∙ told_key c.args.kind c.args.a c.args.b _ c.in-0.is) c.take.ensures.does
 
-pub returns-in-Not : goal.returns-in-Not
-returns-in-Not c = record { says = goes_says _ _ _ _ _ _ _ _ _ _ (sym c.if-not-fits.ensures) (rests_not _ _ _ c.in-Not.ensures); whole = whole_detaching }
+pub returns-in-Err-clause-says : goal.returns-in-Err-clause-says
+returns-in-Err-clause-says c =
+    let f = c.in-Some-first_chunk_mut.ensures.cases in
+    steps _ _ _ _ _ _ _ _ _ _ _ _ c.in-Some.ensures.cases f (first_long _ _ 65536 f) (omega arith) (told_key c.args.kind c.args.a c.args.b _ c.in-0.is) (rests_odd _ _ _ (odd_key c.args.a c.in-Err.ensures))
 
-pub returns-in-First : goal.returns-in-First
-returns-in-First c = record { says = goes_says _ _ _ _ _ _ _ _ _ _ (sym c.if-not-fits.ensures) (c.begin.ensures _); whole = whole_detaching }
+pub returns-in-1-clause-says : goal.returns-in-1-clause-says
+returns-in-1-clause-says c = steps _ _ _ _ _ _ _ _ _ _ _ _ c.in-Some.ensures.cases c.in-Some-first_chunk_mut.ensures.cases c.take-in-1.ensures.row (omega arith) (told_from c.args.kind c.args.a c.args.b _ c.in-1.is) c.take-in-1.ensures.does
 
-pub returns-in-Is : goal.returns-in-Is
-returns-in-Is c = record { says = goes_says _ _ _ _ _ _ _ _ _ _ (sym c.if-not-fits.ensures) c.take.ensures; whole = whole_detaching }
+pub returns-in-2-clause-says : goal.returns-in-2-clause-says
+returns-in-2-clause-says c = steps _ _ _ _ _ _ _ _ _ _ _ _ c.in-Some.ensures.cases c.in-Some-first_chunk_mut.ensures.cases c.take-in-2.ensures.row (omega arith) (told_gone c.args.kind c.args.a c.args.b _ c.in-2.is) c.take-in-2.ensures.does
+
+pub returns-in-3-clause-says : goal.returns-in-3-clause-says
+returns-in-3-clause-says c = steps _ _ _ _ _ _ _ _ _ _ _ _ c.in-Some.ensures.cases c.in-Some-first_chunk_mut.ensures.cases c.take-in-3.ensures.row (omega arith) (told_attach c.args.kind c.args.a c.args.b _ c.in-3.is) c.take-in-3.ensures.does
+
+pub returns-in-4-clause-says : goal.returns-in-4-clause-says
+returns-in-4-clause-says c = steps _ _ _ _ _ _ _ _ _ _ _ _ c.in-Some.ensures.cases c.in-Some-first_chunk_mut.ensures.cases c.resume.ensures.row (omega arith) (told_next c.args.kind c.args.a c.args.b _ c.in-4.is) c.resume.ensures.does
+
+pub returns-in_default-kind-clause-says : goal.returns-in_default-kind-clause-says
+returns-in_default-kind-clause-says c = other_kind _ _ _ _ _ _ _ _ c.in-Some.ensures.cases c.in-Some-first_chunk_mut.ensures.cases (omega arith)
+
+pub returns-in_default-clause-whole : goal.returns-in_default-clause-whole
+returns-in_default-clause-whole c = whole_detaching
+
+pub returns-in_default-first_chunk_mut-clause-whole : goal.returns-in_default-first_chunk_mut-clause-whole
+returns-in_default-first_chunk_mut-clause-whole c = whole_detaching
+
+pub returns-in-Ok-clause-whole : goal.returns-in-Ok-clause-whole
+returns-in-Ok-clause-whole c = whole_detaching
+
+pub returns-in-Err-clause-whole : goal.returns-in-Err-clause-whole
+returns-in-Err-clause-whole c = whole_detaching
+
+pub returns-in-1-clause-whole : goal.returns-in-1-clause-whole
+returns-in-1-clause-whole c = whole_detaching
+
+pub returns-in-2-clause-whole : goal.returns-in-2-clause-whole
+returns-in-2-clause-whole c = whole_detaching
+
+pub returns-in-3-clause-whole : goal.returns-in-3-clause-whole
+returns-in-3-clause-whole c = whole_detaching
+
+pub returns-in-4-clause-whole : goal.returns-in-4-clause-whole
+returns-in-4-clause-whole c = whole_detaching
+
+pub returns-in_default-kind-clause-whole : goal.returns-in_default-kind-clause-whole
+returns-in_default-kind-clause-whole c = whole_detaching

@@ -7,8 +7,8 @@ returns-then-same_size c =
     let s = c.args.p.terminal.size in
     let w = c.place_of.ensures.wide in
     let h = c.place_of.ensures.high in
-    same_does c.args.x c.looked_at.result c.args.size c.args.p c.args.memory.now c.clear_view.new.memory c.advance.new.memory _ _ _ c.requires.memory c.requires.pane
-    (sym (λ i. eqb s.wide (w i) && eqb s.high (h i)) ∙ (sym c.same_size.ensures ∙ c.if-same_size.true)) c.looked_at.ensures c.clear_view.ensures c.advance.ensures
+    same_does c.args.x c.looked_at.result c.args.size c.args.p c.args.memory.now c.clear_view.new.memory c.advance.new.memory _ _ _ c.told-memory c.requires
+    (sym (λ i. eqb s.wide (w i) && eqb s.high (h i)) ∙ (sym c.same_size.ensures ∙ c.if-same_size.true)) c.looked_at.ensures c.clear_view.ensures c.advance.ensures.does
 
 pub returns : goal.returns
 returns c = c.resize_pane.ensures c.args.out.now

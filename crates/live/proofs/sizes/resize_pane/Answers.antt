@@ -17,7 +17,7 @@ returns c = λ ys.
     let w = c.place_of-place.ensures.wide in
     let h = c.place_of-place.ensures.high in
     let n = t.size.high * t.size.wide in
-    other_does c.args.x c.looked_at.result c.args.size p _ m _ c.clear_view.new.memory c.store.new.memory f.cells ys c.pane_and_size.result c.requires.memory c.requires.pane c.requires.other c.looked_at.ensures refl
+    other_does c.args.x c.looked_at.result c.args.size p _ m _ c.clear_view.new.memory c.store.new.memory f.cells ys c.pane_and_size.result c.told-memory c.requires.pane c.requires.other c.looked_at.ensures refl
     f.memory c.clear_view.ensures (stored_done c.looked_at.result c.clear_view.new.memory _ _ c.store.ensures (omega arith))
     (f.long ∙ sym (λ i. f.high i * f.wide i))
     (f.done [] ∙ (ap (λ (j : ℕ). fitted (term_on t (part m j n) []) c.place_of-place.result.wide c.place_of-place.result.high) (sym placed.cells) ∙ (λ i. fitted (terminal_in t m) (w i) (h i))))

@@ -8,11 +8,11 @@ returns-then-k-gt0 c =
     let x = c.args.x in
     let m = c.args.memory.now in
     close_writes (glass_of x m) (view_of x m) m _ _ _ c.send_cursor-k.new.pen c.send_cursor-k.result
-    (close_is x c.args.p m _ _ _ _ c.requires.pane c.requires.looked c.send_cursor-k.ensures) c.if-k-gt0.true (stored_done _ m _ _ c.store.ensures c.requires.memory)
+    (close_is x c.args.p m _ _ _ _ c.requires.pane c.requires.looked c.send_cursor-k.ensures) c.if-k-gt0.true (stored_done _ m _ _ c.store.ensures c.told-memory)
 
 pub returns : goal.returns
 returns c =
     let x = c.args.x in
     let m = c.args.memory.now in
     close_waits (glass_of x m) (view_of x m) m _ _ _ c.send_cursor-k.new.pen c.send_cursor-k.result
-    (close_is x c.args.p m _ _ _ _ c.requires.pane c.requires.looked c.send_cursor-k.ensures) (omega arith) (stored_done x m _ _ c.store-2.ensures c.requires.memory)
+    (close_is x c.args.p m _ _ _ _ c.requires.pane c.requires.looked c.send_cursor-k.ensures) (omega arith) (stored_done x m _ _ c.store-2.ensures c.told-memory)

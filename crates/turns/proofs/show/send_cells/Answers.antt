@@ -8,7 +8,7 @@ returns c =
     let n = c.cells-n.result in
     let f = few_cells c.args.size in
     let a = c.cells-n.ensures.0 in
-    let lm = c.requires.memory in
+    let lo = c.told-out in
     let y : length (take ((2304 + n) - 2304) (drop 2304 m)) ≡ n = length-take ((2304 + n) - 2304) (drop 2304 m) ∙ (let d = length-drop 2304 m in omega arith) in
     sent_go c.args.size.wide c.args.size.high n c.args.row.now m c.args.out.now c.draw.new.screen c.draw.new.out c.args.pen.now c.draw.new.pen c.draw.result
-    a c.requires.out (c.draw.auto.screen ∙ y) c.draw.ensures
+    a (omega arith) (c.draw.auto.screen ∙ y) c.draw.ensures

@@ -16,8 +16,8 @@ returns-then-n-gt0 c =
     let m = c.args.memory.now in
     let l : looks (glass_of x m) ≡ true = ap looks (sym (glass_is x c.args.p m c.requires.pane c.requires.looked)) in
     let s = draw_sent x c.args.p m _ _ _ _ _ _ c.requires.pane c.requires.looked c.draw_picture.ensures c.send_cells-n.ensures in
-    let y : Machine = record { size = x.size; attached = x.attached; prefix = x.prefix; next = x.next; pane = x.pane; pen = c.send_cells-n.new.pen; next_ok = x.next_ok } in
-    draw_writes x y m _ _ _ _ _ c.requires.memory l s c.if-n-gt0.true refl refl (stored_done _ _ _ _ c.store.ensures (c.send_cells-n.auto.memory ∙ c.requires.memory))
+    let y : Machine = record x { pen = c.send_cells-n.new.pen } in
+    draw_writes x y m _ _ _ _ _ c.told-memory l s c.if-n-gt0.true refl refl (stored_done _ _ _ _ c.store.ensures c.send_cells-n.array_long)
 
 pub returns : goal.returns
 returns c =
@@ -27,8 +27,8 @@ returns c =
     let f = few_cells x.size in
     let l : looks (glass_of x m) ≡ true = ap looks (sym (glass_is x p m c.requires.pane c.requires.looked)) in
     let s = draw_sent x p m _ _ _ _ _ _ c.requires.pane c.requires.looked c.draw_picture.ensures c.send_cells-n.ensures in
-    let r = c.draw_picture.auto.row in
+    let r = c.draw_picture.array_long in
     let k : length (cells_of (picture (glass_of x m))) ≡ x.size.high * x.size.wide =
     ap (λ (g : Glass). length (cells_of (picture g))) (sym (glass_is x p m c.requires.pane c.requires.looked))
     ∙ (sym (ap length (c.draw_picture.ensures p.id x.next x.prefix)) ∙ (length-take _ c.draw_picture.new.row ∙ omega arith)) in
-    draw_closes x m _ _ _ _ _ _ _ _ c.requires.memory l k s (omega arith) c.close.ensures
+    draw_closes x m _ _ _ _ _ _ _ _ c.told-memory l k s (omega arith) c.close.ensures
