@@ -87,12 +87,6 @@ pub(crate) fn attach_first(memory: &mut [u64; MEMORY], x: Machine, size: Size) -
     Told::Start(pane_and_size(id, place))
 }
 
-fn same_size(a: Size, b: Size) -> bool
-    ensures { result ≡ (a.wide == b.wide && a.high == b.high) }
-{
-    a.wide == b.wide && a.high == b.high
-}
-
 // The pane gets another size, which is told.
 fn resize_pane(memory: &mut [u64; MEMORY], x: Machine, p: Held, size: Size) -> Told
     requires pane { x.pane ≡ Some p }
@@ -118,7 +112,7 @@ fn attach_again(
     requires { x.pane ≡ Some p }
     ensures { Does (turned x memory.old (attach size.wide size.high)) memory.old memory.new result out.old out.new }
 {
-    if same_size(p.terminal.size, place_of(size)) {
+    if p.terminal.size == place_of(size) {
         clear_view(memory, size);
         return advance(memory, looked_at(size, x.next, p), out);
     }

@@ -1,25 +1,18 @@
 // A machine's state loaded from its memory; numbers that no machine stores are refused.
 ghost use Rattle.std.specs.Prelude.{◌≡◌, ◌^◌, ◌<◌, true, false, length, MatchOption};
 ghost use Rattle.header.specs.Header.{header_fits};
-ghost use Rattle.render.specs.Pens.{rendition_of};
 ghost use Rattle.engine.specs.Areas.{part};
 ghost use Rattle.engine.specs.Memory.{header_at, pen_from};
 ghost use Rattle.machine.specs.States.{used_fits, Holds, PaneLoads, Loads};
 
 use crate::state::{Held, Loaded, Machine};
 use engine::MEMORY;
-use grid::cell::{Rendition, unpack};
+use grid::cell::Rendition;
 use grid::size::Size;
 use render::pen::Pen;
 
 // Panes' numbers stay below 2^47.
 const LIMIT: u64 = 0x8000_0000_0000;
-
-fn load_rendition(n: u64) -> Rendition
-    ensures { result ≡ rendition_of n }
-{
-    unpack(n).rendition
-}
 
 fn load_pen(head: &[u64; 16]) -> Pen
     ensures { result ≡ pen_from head.now }
@@ -28,7 +21,7 @@ fn load_pen(head: &[u64; 16]) -> Pen
         row: head[8] as usize,
         col: head[9] as usize,
         pending: head[10] == 1,
-        rendition: load_rendition(head[11]),
+        rendition: Rendition::from(head[11]),
         visible: head[12] == 1,
     }
 }

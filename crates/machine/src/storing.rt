@@ -2,21 +2,11 @@
 ghost use Rattle.std.specs.Prelude.{◌≡◌, ℕ, ◌≤◌, List, length};
 ghost use Rattle.header.specs.Header.{bit};
 ghost use Rattle.engine.specs.Areas.{part};
-ghost use Rattle.engine.specs.Memory.{rendition_number, has_pane, pane_number, head_of, with_header};
+ghost use Rattle.engine.specs.Memory.{has_pane, pane_number, head_of, with_header};
 ghost use Rattle.machine.specs.States.{panes_of, glass_of, view_of, with_next, Stored, StoredWithNext};
 
 use crate::state::{Held, Machine};
 use engine::MEMORY;
-use grid::cell::{Glyph, Rendition, pack};
-
-fn rendition_bits(r: Rendition) -> u64
-    ensures { result ≡ rendition_number r }
-{
-    pack(Glyph {
-        sign: 0,
-        rendition: r,
-    })
-}
 
 // Whether there is a pane, and its number.
 fn pane_numbers(pane: Option<Held>) -> (u64, u64)
@@ -45,7 +35,7 @@ fn head_numbers(x: Machine, next: u64) -> [u64; 16]
         x.pen.row as u64,
         x.pen.col as u64,
         u64::from(x.pen.pending),
-        rendition_bits(x.pen.rendition),
+        u64::from(x.pen.rendition),
         u64::from(x.pen.visible),
         0,
         0,
