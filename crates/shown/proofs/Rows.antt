@@ -1,10 +1,9 @@
 -- The text of a row, and of rows, as loops come to it.
-use Rattle.std.proofs.Common.{◌≡◌, ℕ, zero, suc, ◌+◌, ◌-◌, ◌*◌, ◌<◌, ◌≤◌, Bool, true, false, ◌&&◌, eqb, List, [], ◌∷◌, ◌++◌, map, length, get_or, take, drop, sym, refl, ap, ◌∙◌, append_assoc, append-nil, add-zero, suc-mul, arith, inl, inr, ◌≢◌}
+use Rattle.std.proofs.Common.{◌≡◌, ℕ, zero, suc, ◌+◌, ◌*◌, ◌<◌, ◌≤◌, true, false, ◌&&◌, eqb, List, [], ◌∷◌, ◌++◌, map, length, get_or, take, drop, sym, refl, ap, ◌∙◌, append_assoc, append-nil, suc-mul, arith, ◌≢◌}
 use Rattle.std.proofs.lemmas.List.{map_more, map_push, length-map, length-take, length-drop, length-append, take_all, take_at, take_more, take-map, drop-map, drop_at, drop-drop}
-use Rattle.std.proofs.Math.Nat.{eq-or-lt_of_le, lt_of_mul-lt-mul_right}
+use Rattle.std.proofs.Math.Nat.{lt_of_mul-lt-mul_right}
 use Rattle.std.proofs.lemmas.Bool.{ne_eqb}
-use Rattle.meaning.specs.Words.{pick, none_of, flat}
-use Rattle.meaning.specs.Screen.{Cell}
+use Rattle.meaning.specs.Words.{pick, flat}
 use Rattle.grid.specs.Cells.{unpacked, rows_of}
 use Rattle.grid.proofs.Pieces.{getD_pieces}
 use Rattle.grid.proofs.Regions.{length_rows}
@@ -13,61 +12,22 @@ use Rattle.output.specs.declared.Buffer.{Buffer}
 use Rattle.output.proofs.Adding.{both, room_left}
 use Rattle.shown.specs.Text.{shown_sign, row_text, row_line, rows_text}
 
-pub row_text_blank : (cs : List Cell) (c : Cell) → c.sign ≡ 32 → row_text (cs ++ c ∷ []) ≡ row_text cs
-unfolding row_text
-row_text_blank [] c e = rw e
-row_text_blank (d ∷ ds) c e = let h = row_text_blank ds c e in rw h
-
-pub row_text_full : (cs : List Cell) (c : Cell) → (c.sign ≡ 32 → ⊥) → row_text (cs ++ c ∷ []) ≡ map shown_sign (cs ++ c ∷ [])
-unfolding row_text
-row_text_full [] c e = rw (ne_eqb c.sign 32 e)
-row_text_full (d ∷ ds) c e =
-    let h = row_text_full ds c e in
-    rw h (some ds (eqb d.sign 32))
-  where
-    some : (xs : List Cell) (b : Bool) → pick (b && none_of (map shown_sign (xs ++ c ∷ []))) [] (shown_sign d ∷ map shown_sign (xs ++ c ∷ [])) ≡ shown_sign d ∷ map shown_sign (xs ++ c ∷ [])
-    some [] true = refl
-    some [] false = refl
-    some (x ∷ xs) true = refl
-    some (x ∷ xs) false = refl
-
--- the last of n cells is a blank, and may be left out
-pub end_less : (xs : List ℕ) (n : ℕ) → 0 < n → n ≤ length xs → (unpacked (get_or xs (n - 1) 0)).sign ≡ 32
-    → row_text (map unpacked (take n xs)) ≡ row_text (map unpacked (take (n - 1) xs))
-end_less xs n p l e =
-    let m = map_more unpacked xs (n - 1) 0 (omega arith) in
-    let s : n - 1 + 1 ≡ n = omega arith in
-    (rw s at (ap row_text m)) ∙ row_text_blank (map unpacked (take (n - 1) xs)) _ e
-
--- the last of n cells is none, and all stand in the text
-pub end_here : (xs : List ℕ) (n : ℕ) → 0 < n → n ≤ length xs → ((unpacked (get_or xs (n - 1) 0)).sign ≡ 32 → ⊥)
-    → row_text (map unpacked (take n xs)) ≡ map shown_sign (map unpacked (take n xs))
-end_here xs n p l e =
-    let m = map_more unpacked xs (n - 1) 0 (omega arith) in
-    let s : n - 1 + 1 ≡ n = omega arith in
-    let k = rw s at m in
-    rw k (row_text_full (map unpacked (take (n - 1) xs)) _ e)
-
-pub end_none : (xs : List ℕ) (n : ℕ) → n ≤ 0 → row_text (map unpacked (take n xs)) ≡ map shown_sign (map unpacked (take n xs))
-unfolding row_text
-end_none xs n l = let e : n ≡ 0 = omega arith in rw e
-
--- blanks behind the first n cells may be left out
-blanks : (xs : List ℕ) (n d : ℕ) → n + d ≤ length xs → ((k : ℕ) → n ≤ k → k < length xs → (unpacked (get_or xs k 0)).sign ≡ 32)
-    → row_text (map unpacked (take (n + d) xs)) ≡ row_text (map unpacked (take n xs))
-blanks xs n zero l h = rw add-zero
-blanks xs n (suc d) l h =
-    let s : n + suc d - 1 ≡ n + d = omega arith in
-    (rw s at (end_less xs (n + suc d) (omega arith) l (h (n + suc d - 1) (omega arith) (omega arith)))) ∙ blanks xs n d (omega arith) h
-
 -- a row ends behind its last cell that is no blank
 pub text_ends : (xs : List ℕ) (n : ℕ) → n ≤ length xs → ((k : ℕ) → n ≤ k → k < length xs → (unpacked (get_or xs k 0)).sign ≡ 32)
-    → (0 < n → (unpacked (get_or xs (n - 1) 0)).sign ≢ 32) → row_text (map unpacked xs) ≡ map shown_sign (map unpacked (take n xs))
-text_ends xs n l h last =
-    let e : n + (length xs - n) ≡ length xs = omega arith in
-    let b = rw (e, take_all (length xs) xs (omega arith)) at (blanks xs n (length xs - n) (omega arith) h) in
-    let z : 0 ≤ n = omega arith in
-    b ∙ elim (eq-or-lt_of_le z) [ inl e₀ ↦ end_none xs n (omega arith) | inr p ↦ end_here xs n p l (last p) ]
+    → ((k : ℕ) → k + 1 ≡ n → (unpacked (get_or xs k 0)).sign ≢ 32) → row_text (map unpacked xs) ≡ map shown_sign (map unpacked (take n xs))
+unfolding row_text
+text_ends [] zero l h last = refl
+text_ends [] (suc n) l h last = absurd (omega arith)
+text_ends (x ∷ xs) zero l h last =
+    let e = text_ends xs zero (omega arith) (λ k a b. h (suc k) (omega arith) (omega arith)) (λ k a. absurd (omega arith)) in
+    let b : (unpacked x).sign ≡ 32 = h 0 (omega arith) (omega arith) in rw (b, e)
+text_ends (x ∷ xs) (suc zero) l h last =
+    let e = text_ends xs zero (omega arith) (λ k a b. h (suc k) (omega arith) (omega arith)) (λ k a. absurd (omega arith)) in
+    rw (e, ne_eqb (unpacked x).sign 32 (last 0 (omega arith)))
+text_ends (x ∷ []) (suc (suc n)) l h last = absurd (omega arith)
+text_ends (x ∷ (y ∷ xs)) (suc (suc n)) l h last =
+    let e = text_ends (y ∷ xs) (suc n) (omega arith) (λ k a b. h (suc k) (omega arith) (omega arith)) (λ k a. last (suc k) (omega arith)) in
+    rw e (elim (eqb (unpacked x).sign 32) as (λ b. pick (b && false) [] (shown_sign (unpacked x) ∷ map shown_sign (map unpacked (take (suc n) (y ∷ xs)))) ≡ map shown_sign (map unpacked (take (suc (suc n)) (x ∷ (y ∷ xs))))) [ true ↦ refl | false ↦ refl ])
 
 -- the bytes of cells one by one
 abbrev pub signs : List ℕ → List ℕ

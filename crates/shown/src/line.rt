@@ -1,9 +1,9 @@
 // Rows of cells and the cursor's place as text, added to a buffer.
-ghost use Rattle.std.specs.Prelude.{◌≡◌, ℕ, ◌+◌, ◌*◌, ◌≤◌, List, map, length, take, slice_index, ◌<◌, ◌≢◌, ◌-◌};
+ghost use Rattle.std.specs.Prelude.{◌≡◌, ◌≢◌, ℕ, ◌+◌, ◌*◌, ◌<◌, ◌≤◌, List, map, length, take, slice_index};
 ghost use Rattle.grid.specs.Cells.{unpacked, rows_of};
 ghost use Rattle.output.specs.Added.{Adds};
 ghost use Rattle.terminal.specs.Terms.{term_on};
-ghost use Rattle.shown.specs.Text.{shown_sign, row_text, row_line, rows_text, cursor_line, screen_text};
+ghost use Rattle.shown.specs.Text.{shown_sign, row_line, rows_text, cursor_line, screen_text};
 
 use grid::cell::Glyph;
 use grid::size::Size;
@@ -24,7 +24,7 @@ fn sign_shown(cell: u64) -> u8
 fn row_end(row: &[u64]) -> usize
     ensures within { result ≤ length row.now }
     ensures blank { (k : ℕ) → result ≤ k → k < length row.now → (unpacked (slice_index row.now k)).sign ≡ 32 }
-    ensures full { 0 < result → (unpacked (slice_index row.now (result - 1))).sign ≢ 32 }
+    ensures full { (k : ℕ) → k + 1 ≡ result → (unpacked (slice_index row.now k)).sign ≢ 32 }
 {
     let last = row.iter().rposition(|cell| Glyph::from(*cell).sign != 32);
     last.map_or(0, |k| k + 1)

@@ -1,5 +1,5 @@
 -- The numbers of one SGR taken one after the other.
-use Rattle.std.proofs.Common.{◌≡◌, ◌∙◌, ℕ, List, [], ◌∷◌, ◌++◌, refl, ap, sym}
+use Rattle.std.proofs.Common.{◌≡◌, ◌∙◌, ℕ, Iter, List, [], ◌∷◌, ◌++◌, refl, ap, sym}
 use Rattle.std.proofs.lemmas.Fn.{fold_over, fronts, slice_gives}
 use Rattle.std.specs.Fn.{Called}
 use Rattle.std.specs.Iterator.{FoldsItems}
@@ -8,7 +8,6 @@ use Rattle.grid.specs.Cells.{style_of}
 use Rattle.grid.specs.declared.cell.Rendition.{Rendition}
 use denote.Param.Members.{Mut}
 use denote.Ref.{Bor}
-use Rattle.std.proofs.Common.{Iter}
 
 -- one number more
 styled_more : (s : Style) (ns : List ℕ) (n : ℕ) → styled s (ns ++ (n ∷ [])) ≡ styled_one (styled s ns) n

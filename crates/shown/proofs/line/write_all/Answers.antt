@@ -1,4 +1,3 @@
-use Rattle.std.proofs.Common.{arith}
 use Rattle.output.proofs.Adding.{both}
 use Rattle.shown.proofs.line.write_all.Goals as goal
 

@@ -1,4 +1,4 @@
-use Rattle.std.proofs.Common.{◌≤◌, ◌+◌, length, add-one, arith}
+use Rattle.std.proofs.Common.{add-one, arith}
 use Rattle.output.proofs.Adding.{both, room_left}
 use Rattle.shown.proofs.line.write_cursor.Goals as goal
 

@@ -1,4 +1,3 @@
-use Rattle.std.proofs.Common.{arith}
 use Rattle.shown.proofs.Rows.{signs_room, signs_more}
 use Rattle.shown.proofs.line.write_signs.Goals as goal
 
