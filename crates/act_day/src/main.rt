@@ -4,7 +4,7 @@
 use anyhow::anyhow;
 use days::{BadDay, Line, message, print_acts, read_day};
 use live::{MEMORY, OUT};
-use serve::{Acts, BUDGET, Coming, Served, serve};
+use serve::{Acts, BUDGET, Coming, Ended, serve};
 use std::alloc::Global;
 use std::io::{Read, Write};
 use std::{env, fs};
@@ -32,12 +32,8 @@ impl Machine {
     fn comes(&mut self, coming: Coming, bytes: &[u8]) -> anyhow::Result<bool> {
         let memory = self.memory.as_mut_slice();
         let out = self.out.as_mut_slice();
-        match serve(&mut self.acts, memory, out, BUDGET, coming, bytes)? {
-            Served::Waits => Ok(false),
-            Served::Over => Ok(true),
-            Served::Stuck => Err(anyhow!("the machine does not come to wait")),
-            Served::Refused => Err(anyhow!("the machine refuses its memory")),
-        }
+        let end = serve(&mut self.acts, memory, out, BUDGET, coming, bytes)?;
+        Ok(matches!(end, Ended::Over))
     }
 
     fn keys(&mut self, keys: &[u8]) -> anyhow::Result<bool> {

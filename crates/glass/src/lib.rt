@@ -7,11 +7,7 @@ ghost use Rattle.engine.specs.Own.{own};
 
 use meaning::Told;
 
-// How many numbers the memory has.
-pub const MEMORY: usize = 238304;
-
-// How many bytes the lent row has at least: the longest that is ever said.
-pub const OUT: usize = 65536;
+pub use engine::{MEMORY, OUT};
 
 fn fits(memory: &[u64], kind: u64, out: &[u8]) -> bool
     ensures { result ≡ step_fits own memory.now kind out.now }

@@ -13,9 +13,10 @@ use Rattle.render_law.specs.Law.{differing}
 use Rattle.render_law.proofs.Law.{writer_law}
 use Rattle.shown.specs.Driven.{unheard}
 use Rattle.serve.specs.declared.acts.Acts.{Acts}
-use Rattle.serve.specs.declared.acts.Served.{Served}
-use Rattle.serve.specs.declared.coming.Coming.{Coming}
-use Rattle.serve.specs.declared.coming.Coming.TheVariants.{Key, From, Gone, Look}
+use Rattle.serve.specs.declared.ended.Ended.{Ended}
+use Rattle.serve.specs.declared.ended.Fault.{Fault}
+use Rattle.live.specs.declared.coming.Coming.{Coming}
+use Rattle.live.specs.declared.coming.Coming.TheVariants.{Key, From, Gone, Look}
 use Rattle.serve.specs.Coming.{event_of}
 use Rattle.serve.specs.Log.{Log, no_acts, log_of}
 use Rattle.serve.specs.Serving.{Went, went, goes, sizes_fit, Serves}
@@ -50,7 +51,7 @@ unfolding screen_at
 attended_gone p x i e bs = subst (λ (y : Coming). Attended p (event_of y bs) p) (sym e) (record { memory = refl; out = refl; tally = refl; screen = refl; attached = refl })
 
 -- the machine, over the slices that memory and row lend
-module _ (e : Engine) (ev : Event) (p : Player) (none : Log) (made_acts : Acts) (xs ys ms os : List ℕ) (s : Served) (over : Bool) where
+module _ (e : Engine) (ev : Event) (p : Player) (none : Log) (made_acts : Acts) (xs ys ms os : List ℕ) (s : Result Ended Fault) (over : Bool) where
   pub served_so : none ≡ no_acts → xs ≡ vec_items p.memory → ys ≡ vec_items p.out → length ms ≡ length xs → s ≡ end_of over
       → Serves e 1000000 ev xs ys none s ms (log_of made_acts)
       → ServedSo e ev p over (record { memory = with_items p.memory ms; out = with_items p.out os; acts = made_acts; attached = p.attached; screen = p.screen; tally = p.tally })

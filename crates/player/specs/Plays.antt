@@ -1,5 +1,5 @@
 -- One thing played: the machine goes until it waits, its bytes are on the screen, and they are no more than are granted.
-use Rattle.std.specs.Prelude.{◌≡◌, ℕ, ◌≤◌, Bool, true, false, List, length, vec_items}
+use Rattle.std.specs.Prelude.{◌≡◌, ℕ, ◌≤◌, Bool, true, false, List, length, Ok, Result, vec_items}
 use Rattle.meaning.specs.Words.{pick, so_many}
 use Rattle.meaning.specs.Screen.{fresh}
 use Rattle.meaning.specs.Bytes.{written}
@@ -8,8 +8,9 @@ use Rattle.meaning.specs.Picture.{differs}
 use Rattle.meaning.specs.Promise.{Engine, comes, screen_at}
 use Rattle.render_law.specs.Law.{differing}
 use Rattle.shown.specs.Driven.{unheard}
-use Rattle.serve.specs.declared.acts.Served.{Served}
-use Rattle.serve.specs.declared.acts.Served.TheVariants.{Waits, Over}
+use Rattle.serve.specs.declared.ended.Ended.{Ended}
+use Rattle.serve.specs.declared.ended.Ended.TheVariants.{Waits, Over}
+use Rattle.serve.specs.declared.ended.Fault.{Fault}
 use Rattle.serve.specs.Log.{no_acts, log_of}
 use Rattle.serve.specs.Serving.{Went, goes, sizes_fit, Serves}
 use Rattle.player.specs.declared.play.Player.{Player}
@@ -49,8 +50,8 @@ pub record Attended (p : Player) (ev : Event) (p₁ : Player) : Type 0 where
   pub screen : screen_of p₁.screen ≡ screen_at ev (screen_of p.screen)
   pub attached : p₁.attached ≡ attached_at ev p.attached
 
-abbrev pub end_of : Bool → Served
-end_of over = pick over Over Waits
+abbrev pub end_of : Bool → Result Ended Fault
+end_of over = Ok (pick over Over Waits)
 
 -- the machine has come to wait; so many steps are given
 pub record ServedSo (e : Engine) (ev : Event) (p : Player) (over : Bool) (p₁ : Player) : Type 0 where

@@ -31,6 +31,16 @@ impl From<AllocError> for Fault {
     }
 }
 
+impl From<serve::Fault> for Fault {
+    fn from(e: serve::Fault) -> Fault {
+        match e {
+            serve::Fault::Memory => Fault::Memory,
+            serve::Fault::Stuck => Fault::Stuck,
+            serve::Fault::Refused => Fault::Refused,
+        }
+    }
+}
+
 pub fn says(fault: Fault) -> &'static str
     ensures { result.now ≡ fault_says fault }
 {

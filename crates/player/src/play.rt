@@ -10,7 +10,7 @@ use crate::screen::Screen;
 use crate::tally::Tally;
 use grid::size::Size;
 use live::{MEMORY, OUT};
-use serve::{Acts, BUDGET, Coming, Served, serve};
+use serve::{Acts, BUDGET, Coming, Ended, serve};
 use std::alloc::Global;
 
 #[derive(Drop)]
@@ -78,10 +78,8 @@ impl Player {
         let memory = self.memory.as_mut_slice();
         let out = self.out.as_mut_slice();
         match serve(&mut self.acts, memory, out, BUDGET, coming, bytes)? {
-            Served::Waits => Ok(false),
-            Served::Over => Ok(true),
-            Served::Stuck => Err(Fault::Stuck),
-            Served::Refused => Err(Fault::Refused),
+            Ended::Waits => Ok(false),
+            Ended::Over => Ok(true),
         }
     }
 

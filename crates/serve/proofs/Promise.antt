@@ -1,5 +1,5 @@
 -- A run of the promise and serving, step by step.
-use Rattle.std.proofs.Common.{◌≡◌, ℕ, zero, suc, ◌+◌, Bool, true, false, ◌&&◌, List, [], ◌++◌, length, sym, refl, ap, ◌∙◌, append_assoc, append-nil, arith}
+use Rattle.std.proofs.Common.{◌≡◌, ℕ, zero, suc, ◌+◌, Bool, true, false, ◌&&◌, List, Err, [], ◌++◌, length, sym, refl, ap, ◌∙◌, append_assoc, append-nil, arith}
 use Rattle.std.proofs.lemmas.List.{length-append}
 use Rattle.meaning.specs.Words.{pick}
 use Rattle.meaning.specs.Screen.{Term}
@@ -7,10 +7,10 @@ use Rattle.meaning.specs.Bytes.{written}
 use Rattle.meaning.specs.Panes.{Says}
 use Rattle.meaning.specs.Promise.{Engine, ToldIt, next, Act, write, says, wait, Ran, ran, a_row, one_act, runs}
 use Rattle.meaning.proofs.Parts.{in_parts}
-use Rattle.serve.specs.declared.acts.Served.TheVariants.{Waits, Over, Stuck}
+use Rattle.serve.specs.declared.ended.Fault.TheVariants.{Stuck}
 use Rattle.serve.specs.Log.{Log, noted}
 use Rattle.serve.specs.Serving.{Went, went, act_done, over_by, goes}
-use Rattle.serve.specs.Promised.{is_waiting, SameWay, AsPromised}
+use Rattle.serve.specs.Promised.{SameWay, AsPromised}
 
 -- after a write of bs
 behind : (r : Ran) (g : Went) (t : Term) (b : ℕ) (l : Log) (bs : List ℕ) → SameWay r g (written t bs) (b + length bs) (noted l (write bs)) → SameWay r g t b l
@@ -27,13 +27,9 @@ behind r g t b l bs w = record {
 beside : (r : Ran) (g : Went) (t : Term) (b : ℕ) (l : Log) (s : Says) → SameWay r g t b (noted l (says s)) → SameWay r g t b l
 beside r g t b l s w = record { memory = w.memory; waits = w.waits; bytes = w.bytes; logged = w.logged ∙ ap (λ (x : List ℕ). x ++ w.bytes) (append-nil l.for_viewer); shown = w.shown; count = w.count }
 
-waiting : (ended : Bool) (m : List ℕ) (t : Term) (ss : List Says) (b : ℕ) (l : Log) → SameWay (ran m t ss b 0) (act_done (λ m₁ l₁ ended₁. went m₁ l₁ Stuck) m l ended wait) t b l
+waiting : (ended : Bool) (m : List ℕ) (t : Term) (ss : List Says) (b : ℕ) (l : Log) → SameWay (ran m t ss b 0) (act_done (λ m₁ l₁ ended₁. went m₁ l₁ (Err Stuck)) m l ended wait) t b l
 unfolding written
-waiting ended m t ss b l = record { memory = refl; waits = either ended; bytes = []; logged = refl; shown = refl; count = omega arith }
-  where
-    either : (x : Bool) → is_waiting (pick x Over Waits) ≡ true
-    either true = refl
-    either false = refl
+waiting ended m t ss b l = record { memory = refl; waits = refl; bytes = []; logged = refl; shown = refl; count = omega arith }
 
 -- one act, and then the rest as it is known to go
 module _ (looked : Bool) (n : ℕ) (e : Engine) (rest : (m : List ℕ) (t : Term) (ss : List Says) (b : ℕ) (l : Log) (ended : Bool) → (runs looked n e m next t ss b).end ≡ 0 → SameWay (runs looked n e m next t ss b) (goes true n e m next l ended) t b l) where

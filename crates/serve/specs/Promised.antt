@@ -1,20 +1,18 @@
 -- Serving goes the way of which the promise speaks: where a run of the promise comes to wait, serving in as many steps does, with the same memory, and the
 -- bytes in the log are those that are on the screen then.
-use Rattle.std.specs.Prelude.{◌≡◌, ℕ, ◌+◌, Bool, true, false, List, ◌++◌, length}
+use Rattle.std.specs.Prelude.{◌≡◌, ℕ, ◌+◌, Bool, true, false, List, Ok, Err, Result, ◌++◌, length}
 use Rattle.meaning.specs.Screen.{Term}
 use Rattle.meaning.specs.Bytes.{written}
 use Rattle.meaning.specs.Panes.{Says}
 use Rattle.meaning.specs.Promise.{Engine, ToldIt, Ran, runs}
-use Rattle.serve.specs.declared.acts.Served.{Served}
-use Rattle.serve.specs.declared.acts.Served.TheVariants.{Waits, Over, Stuck, Refused}
+use Rattle.serve.specs.declared.ended.Ended.{Ended}
+use Rattle.serve.specs.declared.ended.Fault.{Fault}
 use Rattle.serve.specs.Log.{Log}
 use Rattle.serve.specs.Serving.{Went, goes}
 
-abbrev pub is_waiting : Served → Bool
-is_waiting Waits = true
-is_waiting Over = true
-is_waiting Stuck = false
-is_waiting Refused = false
+abbrev pub is_waiting : Result Ended Fault → Bool
+is_waiting (Ok s) = true
+is_waiting (Err f) = false
 
 -- a run from screen t with b bytes so far, and serving from log l
 pub record SameWay (r : Ran) (g : Went) (t : Term) (b : ℕ) (l : Log) : Type 0 where

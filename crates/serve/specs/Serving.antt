@@ -1,19 +1,24 @@
 -- One thing served: the machine is told it and then to go on, again and again, until it waits.
-use Rattle.std.specs.Prelude.{◌≡◌, ℕ, zero, suc, Bool, true, false, ◌&&◌, List, length, ◌==◌, nat_le}
+use Rattle.std.specs.Prelude.{◌≡◌, ℕ, zero, suc, Bool, true, false, List, Some, None, Option, Ok, Err, Result}
 use Rattle.meaning.specs.Words.{pick}
 use Rattle.meaning.specs.Panes.{Event, Says, send, start, sized, stop, leave, over}
 use Rattle.meaning.specs.Promise.{Engine, ToldIt, comes, next, Act, write, says, wait}
-use Rattle.serve.specs.declared.acts.Served.{Served}
-use Rattle.serve.specs.declared.acts.Served.TheVariants.{Waits, Over, Stuck, Refused}
+use Rattle.live.specs.Coming.{event_of}
+pub use Rattle.live.specs.Coming.{sizes_fit}
+use Rattle.live.specs.declared.coming.Coming.{Coming}
+use Rattle.serve.specs.declared.ended.Ended.{Ended}
+use Rattle.serve.specs.declared.ended.Ended.TheVariants.{Waits, Over}
+use Rattle.serve.specs.declared.ended.Fault.{Fault}
+use Rattle.serve.specs.declared.ended.Fault.TheVariants.{Stuck, Refused}
 use Rattle.serve.specs.Log.{Log, noted}
 
 -- how it went: the memory and the log afterwards, and how it ended
 pub record Went : Type 0 where
   pub memory : List ℕ
   pub log : Log
-  pub end : Served
+  pub end : Result Ended Fault
 
-abbrev pub went : List ℕ → Log → Served → Went
+abbrev pub went : List ℕ → Log → Result Ended Fault → Went
 went m l s = record { memory = m; log = l; end = s }
 
 -- whether it has been said that all is over
@@ -29,18 +34,19 @@ over_by over ended = true
 abbrev pub act_done : (List ℕ → Log → Bool → Went) → List ℕ → Log → Bool → Act → Went
 act_done go m l ended (write bs) = go m (noted l (write bs)) ended
 act_done go m l ended (says s) = go m (noted l (says s)) (over_by s ended)
-act_done go m l ended wait = went m (noted l wait) (pick ended Over Waits)
+act_done go m l ended wait = went m (noted l wait) (Ok (pick ended Over Waits))
 
 -- up to n steps, the first with what came, then going on; fit says whether the sizes are right, and if not nothing is done
 unfoldable pub goes : Bool → ℕ → Engine → List ℕ → ToldIt → Log → Bool → Went
-goes fit zero e m ev l ended = went m l Stuck
+goes fit zero e m ev l ended = went m l (Err Stuck)
 goes fit (suc n) e m ev l ended =
-    pick fit (act_done (λ m₁ l₁ ended₁. goes fit n e m₁ next l₁ ended₁) (e.step m ev).memory l ended (e.step m ev).act) (went m l Refused)
+    pick fit (act_done (λ m₁ l₁ ended₁. goes fit n e m₁ next l₁ ended₁) (e.step m ev).memory l ended (e.step m ev).act) (went m l (Err Refused))
 
--- a memory of the machine's own length, and a lent row of 65,536 bytes or more
-abbrev pub sizes_fit : Engine → List ℕ → List ℕ → Bool
-sizes_fit e memory out = length memory == length e.start && nat_le 65536 (length out)
+-- what the machine is told: what has come, with its bytes beside it, or to go on
+abbrev pub told_it : Option Coming → List ℕ → ToldIt
+told_it None bs = next
+told_it (Some x) bs = comes (event_of x bs)
 
 -- memory, log and end are those of the machine e
-pub record Serves (e : Engine) (budget : ℕ) (ev : Event) (memory out : List ℕ) (log : Log) (s : Served) (memory₁ : List ℕ) (log₁ : Log) : Type 0 where
+pub record Serves (e : Engine) (budget : ℕ) (ev : Event) (memory out : List ℕ) (log : Log) (s : Result Ended Fault) (memory₁ : List ℕ) (log₁ : Log) : Type 0 where
   pub so : went memory₁ log₁ s ≡ goes (sizes_fit e memory out) budget e memory (comes ev) log false

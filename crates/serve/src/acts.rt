@@ -33,16 +33,3 @@ impl Acts {
         self.sent.clear();
     }
 }
-
-// How serving one thing ended.
-#[derive(Clone, Copy)]
-pub enum Served {
-    // The machine waits for the next.
-    Waits,
-    // It waits, and on the way it said that the last window has gone.
-    Over,
-    // It did not come to wait within the steps it was given.
-    Stuck,
-    // What was asked does not fit: nothing was done.
-    Refused,
-}

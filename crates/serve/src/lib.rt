@@ -2,14 +2,15 @@
 #![tactic(auto)]
 
 mod acts;
-mod coming;
+mod ended;
 mod note;
 mod thing;
 
 ghost use Rattle.serve.specs.Promised.{AsPromised};
 
-pub use acts::{Acts, Served};
-pub use coming::Coming;
+pub use acts::Acts;
+pub use ended::{Ended, Fault};
+pub use live::Coming;
 pub use thing::{BUDGET, serve};
 
 // Where a run of the promise comes to wait, serving does, with its memory and its bytes.

@@ -6,29 +6,18 @@ use crate::acts::Acts;
 use meaning::Told;
 use std::alloc::AllocError;
 
-// The first bytes, or all where there are not so many.
-fn first(bytes: &[u8], n: usize) -> &[u8]
-    ensures { result.now ≡ take n bytes.now }
-{
-    if n < bytes.len() { &bytes[0..n] } else { bytes }
-}
-
 // The bytes of the act are the first of `out`. Where memory fails, the log may have got the act without them.
 pub(crate) fn note(acts: &mut Acts, told: Told, out: &[u8]) -> Result<(), AllocError>
     ensures { OnOk result (log_of acts.new ≡ kept (log_of acts.old) told out.now) }
 {
     acts.told.push(told)?;
     match told {
-        Told::Write(n) => acts.written.extend_from_slice(first(out, n as usize)),
+        Told::Write(n) => acts
+            .written
+            .extend_from_slice(&out[..out.len().min(n as usize)]),
         Told::Send(n) => acts
             .sent
-            .extend_from_slice(first(out, (n % 65536) as usize)),
-        Told::Start(_) => Ok(()),
-        Told::Size(_) => Ok(()),
-        Told::Stop(_) => Ok(()),
-        Told::Leave => Ok(()),
-        Told::Over => Ok(()),
-        Told::Wait => Ok(()),
-        Told::No(_) => Ok(()),
+            .extend_from_slice(&out[..out.len().min((n % 65536) as usize)]),
+        _ => Ok(()),
     }
 }
