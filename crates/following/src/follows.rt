@@ -30,7 +30,7 @@ pub trait Follows {
     }
 
     // One key after another, up to that with which it is over.
-    fn keys(&mut self, codes: &[u8]) -> Result<bool>
+    final fn keys(&mut self, codes: &[u8]) -> Result<bool>
         ensures { IfOk result (λ over. Until comes self.old (map panes.key codes.now) over self.new) }
     {
         for code in codes {
@@ -42,7 +42,7 @@ pub trait Follows {
     }
 
     // One line of the day; whether it is over then.
-    fn line(&mut self, line: &Line) -> Result<bool>
+    final fn line(&mut self, line: &Line) -> Result<bool>
         ensures { IfOk result (λ over. Until comes self.old (events_of (thing_of line.now)) over self.new) }
     {
         match line {
