@@ -1,13 +1,12 @@
 // The glass over files: a day on standard input, or in the file named as the argument, and the machine's acts on standard output.
 #![tactic(auto)]
 
-use anyhow::anyhow;
-use days::{BadDay, Line, message, print_acts, read_day};
+use days::print_acts;
+use following::Follows;
 use live::{MEMORY, OUT};
 use serve::{Acts, BUDGET, Coming, Ended, serve};
 use std::alloc::Global;
-use std::io::{Read, Write};
-use std::{env, fs};
+use std::io::Write;
 
 // The machine with its memory, the row lent to it, and its acts.
 #[derive(Drop)]
@@ -36,26 +35,6 @@ impl Machine {
         Ok(matches!(end, Ended::Over))
     }
 
-    fn keys(&mut self, keys: &[u8]) -> anyhow::Result<bool> {
-        for k in keys {
-            if self.comes(Coming::Key(*k), &[])? {
-                return Ok(true);
-            }
-        }
-        Ok(false)
-    }
-
-    fn line(&mut self, line: &Line) -> anyhow::Result<bool> {
-        match line {
-            Line::Look(columns, rows) => self.comes(Coming::Look(*columns, *rows), &[]),
-            Line::Keys(keys) => self.keys(keys.as_slice()),
-            Line::From(pane, bytes) => self.comes(Coming::From(*pane), bytes.as_slice()),
-            Line::Gone(pane) => self.comes(Coming::Gone(*pane), &[]),
-            Line::Show => Ok(false),
-            Line::Nothing => Ok(false),
-        }
-    }
-
     // The lines of the acts since the last time.
     fn lines(&mut self, text: &mut Vec<u8>) -> anyhow::Result<()> {
         text.clear();
@@ -71,42 +50,36 @@ impl Machine {
     }
 }
 
-fn input(rt: &HostRuntime) -> anyhow::Result<Vec<u8>> {
-    let mut args = env::args(rt)?;
-    let _program = args.next();
-    if let Some(path) = args.next() {
-        return Ok(fs::read(rt, path.as_str())?);
+impl Follows for Machine {
+    fn look(&mut self, columns: u64, rows: u64) -> anyhow::Result<bool> {
+        self.comes(Coming::Look(columns, rows), &[])
     }
-    let mut text = Vec::new(rt.alloc());
-    rt.stdin().read_to_end(&mut text)?;
-    Ok(text)
-}
 
-fn bad(heap: Global, day: BadDay) -> anyhow::Error {
-    let BadDay { line, fault } = day;
-    let what = message(fault);
-    match format!(in heap; "line {line}: {what}") {
-        Ok(text) => anyhow!(text),
-        Err(_) => anyhow!("out of memory"),
+    fn key(&mut self, code: u8) -> anyhow::Result<bool> {
+        self.comes(Coming::Key(code), &[])
+    }
+
+    fn from(&mut self, pane: u64, bytes: &[u8]) -> anyhow::Result<bool> {
+        self.comes(Coming::From(pane), bytes)
+    }
+
+    fn gone(&mut self, pane: u64) -> anyhow::Result<bool> {
+        self.comes(Coming::Gone(pane), &[])
     }
 }
 
 fn run(rt: &HostRuntime) -> anyhow::Result<()> {
     let heap = rt.alloc();
-    let text = input(rt)?;
-    let day = match read_day(heap, text.as_slice()) {
-        Ok(day) => day,
-        Err(b) => return Err(bad(heap, b)),
-    };
+    let day = following::read(rt)?;
     let mut machine = Machine::start(heap)?;
     let mut acts = Vec::new(heap);
-    for line in day.iter() {
+    for line in &day {
         let over = machine.line(line);
         // What was done before a fault is printed too.
         machine.lines(&mut acts)?;
         rt.stdout().write_all(acts.as_slice())?;
         if over? {
-            return Ok(());
+            break;
         }
     }
     Ok(())

@@ -2,13 +2,13 @@
 // that only waits. Those of the machine that runs are act_day's.
 #![tactic(auto)]
 
-use anyhow::anyhow;
-use days::{BadDay, Line, message, print_act, read_day};
+use anyhow::bail;
+use days::print_act;
+use following::Follows;
 use glass::{MEMORY, OUT, step};
 use meaning::Told;
 use std::alloc::Global;
-use std::io::{Read, Write};
-use std::{env, fs};
+use std::io::Write;
 
 // How often the machine may act for one thing that comes, before that is taken for a fault.
 const MOST: usize = 1000000;
@@ -53,70 +53,43 @@ impl Machine {
         for _ in 0..MOST {
             match told {
                 Told::Wait => return Ok(over),
-                Told::No(_) => return Err(anyhow!("the machine refuses its memory")),
+                Told::No(_) => bail!("the machine refuses its memory"),
                 Told::Over => over = true,
                 _ => {}
             }
             told = self.act(4, 0, 0, &[])?;
         }
-        Err(anyhow!("the machine does not come to wait"))
-    }
-
-    fn keys(&mut self, keys: &[u8]) -> anyhow::Result<bool> {
-        for k in keys {
-            if self.serve(0, u64::from(*k), 0, &[])? {
-                return Ok(true);
-            }
-        }
-        Ok(false)
-    }
-
-    fn line(&mut self, line: &Line) -> anyhow::Result<bool> {
-        match line {
-            Line::Look(columns, rows) => self.serve(3, *columns, *rows, &[]),
-            Line::Keys(keys) => self.keys(keys.as_slice()),
-            Line::From(pane, bytes) => self.serve(1, *pane, 0, bytes.as_slice()),
-            Line::Gone(pane) => self.serve(2, *pane, 0, &[]),
-            Line::Show => Ok(false),
-            Line::Nothing => Ok(false),
-        }
+        bail!("the machine does not come to wait")
     }
 }
 
-fn input(rt: &HostRuntime) -> anyhow::Result<Vec<u8>> {
-    let mut args = env::args(rt)?;
-    let _program = args.next();
-    if let Some(path) = args.next() {
-        return Ok(fs::read(rt, path.as_str())?);
+impl Follows for Machine {
+    fn look(&mut self, columns: u64, rows: u64) -> anyhow::Result<bool> {
+        self.serve(3, columns, rows, &[])
     }
-    let mut text = Vec::new(rt.alloc());
-    rt.stdin().read_to_end(&mut text)?;
-    Ok(text)
-}
 
-fn bad(heap: Global, day: BadDay) -> anyhow::Error {
-    let BadDay { line, fault } = day;
-    let what = message(fault);
-    match format!(in heap; "line {line}: {what}") {
-        Ok(text) => anyhow!(text),
-        Err(_) => anyhow!("out of memory"),
+    fn key(&mut self, code: u8) -> anyhow::Result<bool> {
+        self.serve(0, u64::from(code), 0, &[])
+    }
+
+    fn from(&mut self, pane: u64, bytes: &[u8]) -> anyhow::Result<bool> {
+        self.serve(1, pane, 0, bytes)
+    }
+
+    fn gone(&mut self, pane: u64) -> anyhow::Result<bool> {
+        self.serve(2, pane, 0, &[])
     }
 }
 
 fn run(rt: &HostRuntime) -> anyhow::Result<()> {
-    let heap = rt.alloc();
-    let text = input(rt)?;
-    let day = match read_day(heap, text.as_slice()) {
-        Ok(day) => day,
-        Err(b) => return Err(bad(heap, b)),
-    };
-    let mut machine = Machine::start(heap)?;
-    for line in day.iter() {
+    let day = following::read(rt)?;
+    let mut machine = Machine::start(rt.alloc())?;
+    for line in &day {
         let over = machine.line(line)?;
         rt.stdout().write_all(machine.acts.as_slice())?;
         machine.acts.clear();
         if over {
-            return Ok(());
+            break;
         }
     }
     Ok(())

@@ -1,8 +1,6 @@
 -- One thing played, put together from its parts.
 use Rattle.std.proofs.Common.{◌≡◌, ℕ, ◌*◌, ◌≤◌, Bool, true, false, List, length, IfOk, Ok, Err, vec_items, Result, Vec, sym, refl, ap, ◌∙◌, subst, arith}
-use Rattle.std.specs.Vec.{with_items}
 use Rattle.std.specs.declared.alloc.Global.{Global}
-use Rattle.std.proofs.lemmas.List.{with_items_is}
 use Rattle.std.proofs.lemmas.Bool.Decides.{nat_tests}
 use Rattle.meaning.specs.Screen.{Term, fresh}
 use Rattle.meaning.specs.Bytes.{written}
@@ -13,13 +11,11 @@ use Rattle.render_law.specs.Law.{differing}
 use Rattle.render_law.proofs.Law.{writer_law}
 use Rattle.shown.specs.Driven.{unheard}
 use Rattle.serve.specs.declared.acts.Acts.{Acts}
-use Rattle.serve.specs.declared.ended.Ended.{Ended}
-use Rattle.serve.specs.declared.ended.Fault.{Fault}
 use Rattle.live.specs.declared.coming.Coming.{Coming}
 use Rattle.live.specs.declared.coming.Coming.TheVariants.{Key, From, Gone, Look}
 use Rattle.serve.specs.Coming.{event_of}
-use Rattle.serve.specs.Log.{Log, no_acts, log_of}
-use Rattle.serve.specs.Serving.{Went, went, goes, sizes_fit, Serves}
+use Rattle.serve.specs.Log.{no_acts, log_of}
+use Rattle.serve.specs.Serving.{Went, went, goes, sizes_fit}
 use Rattle.player.specs.declared.play.Player.{Player}
 use Rattle.player.specs.declared.screen.Screen.{Screen}
 use Rattle.player.specs.declared.tally.Tally.{Tally}
@@ -38,40 +34,12 @@ attended_look (Ok y) p p₁ x w h e l = λ bs. subst (λ (c : Coming). Attended 
     (record { memory = l.memory; out = l.out; tally = l.tally; screen = l.screen; attached = l.attached })
 attended_look (Err y) p p₁ x w h e l = tt
 
-pub attended_key : (p : Player) (x : Coming) (c : ℕ) → x ≡ Key c → (bs : List ℕ) → Attended p (event_of x bs) p
+pub attended_other : (p : Player) (x : Coming) → ((w h : ℕ) → x ≡ Look w h → ⊥) → (bs : List ℕ) → Attended p (event_of x bs) p
 unfolding screen_at
-attended_key p x c e bs = subst (λ (y : Coming). Attended p (event_of y bs) p) (sym e) (record { memory = refl; out = refl; tally = refl; screen = refl; attached = refl })
-
-pub attended_from : (p : Player) (x : Coming) (i : ℕ) → x ≡ From i → (bs : List ℕ) → Attended p (event_of x bs) p
-unfolding screen_at
-attended_from p x i e bs = subst (λ (y : Coming). Attended p (event_of y bs) p) (sym e) (record { memory = refl; out = refl; tally = refl; screen = refl; attached = refl })
-
-pub attended_gone : (p : Player) (x : Coming) (i : ℕ) → x ≡ Gone i → (bs : List ℕ) → Attended p (event_of x bs) p
-unfolding screen_at
-attended_gone p x i e bs = subst (λ (y : Coming). Attended p (event_of y bs) p) (sym e) (record { memory = refl; out = refl; tally = refl; screen = refl; attached = refl })
-
--- the machine, over the slices that memory and row lend
-module _ (e : Engine) (ev : Event) (p : Player) (none : Log) (made_acts : Acts) (xs ys ms os : List ℕ) (s : Result Ended Fault) (over : Bool) where
-  pub served_so : none ≡ no_acts → xs ≡ vec_items p.memory → ys ≡ vec_items p.out → length ms ≡ length xs → s ≡ end_of over
-      → Serves e 1000000 ev xs ys none s ms (log_of made_acts)
-      → ServedSo e ev p over (record { memory = with_items p.memory ms; out = with_items p.out os; acts = made_acts; attached = p.attached; screen = p.screen; tally = p.tally })
-  served_so n x y l q t =
-      let f : vec_items (with_items p.memory ms) ≡ ms = with_items_is p.memory ms (l ∙ (ap length x ∙ sym p.memory.ok.0)) in
-      record {
-        serves = record {
-          so = ap (λ (m : List ℕ). went m (log_of made_acts) (end_of over)) f
-              ∙ (ap (went ms (log_of made_acts)) (sym q)
-              ∙ (t.so
-              ∙ (ap (λ (m : List ℕ). goes (sizes_fit e m ys) 1000000 e m (comes ev) none false) x
-              ∙ (ap (λ (o : List ℕ). goes (sizes_fit e (vec_items p.memory) o) 1000000 e (vec_items p.memory) (comes ev) none false) y
-              ∙ ap (λ (k : Log). goes (sizes_fit e (vec_items p.memory) (vec_items p.out)) 1000000 e (vec_items p.memory) (comes ev) k false) n))));
-        };
-        long = sym (with_items p.memory ms).ok.0 ∙ p.memory.ok.0;
-        room = sym (with_items p.out os).ok.0 ∙ p.out.ok.0;
-        screen = refl;
-        attached = refl;
-        tally = refl;
-      }
+attended_other p (Key c) f bs = record { memory = refl; out = refl; tally = refl; screen = refl; attached = refl }
+attended_other p (From i) f bs = record { memory = refl; out = refl; tally = refl; screen = refl; attached = refl }
+attended_other p (Gone i) f bs = record { memory = refl; out = refl; tally = refl; screen = refl; attached = refl }
+attended_other p (Look w h) f bs = absurd (f w h refl)
 
 -- cells of two screens of one size, counted by rows
 pub same_count : (s s₁ : Screen) (b : List ℕ) → b ≡ vec_items s.cells → whole_screen s ≡ true → whole_screen s₁ ≡ true → s₁.term.size.wide ≡ s.term.size.wide → s₁.term.size.high ≡ s.term.size.high

@@ -12,14 +12,7 @@ pub fn differing(before: &[u64], after: &[u64]) -> usize
     ensures flat { result ≡ law.differing before.now after.now }
     ensures rows { (w h : ℕ) → length before.now ≡ h * w → length after.now ≡ h * w → result ≡ differs (rows_of w h before.now) (rows_of w h after.now) }
 {
-    let end = before.len().min(after.len());
-    let mut count = 0;
-    for i in 0..end {
-        if before[i] != after[i] {
-            count += 1;
-        }
-    }
-    count
+    before.iter().zip(after).filter(|(x, y)| x != y).count()
 }
 
 // How many bytes are granted where so many cells differ; a screen has 12,000 at most.
@@ -39,10 +32,5 @@ pub fn granted(attached: bool, over: bool, cells: usize) -> u64
 pub fn attached_after(attached: bool, acts: &[Told]) -> bool
     ensures { result ≡ still_attached attached acts.now }
 {
-    for act in acts {
-        if let Told::Leave = *act {
-            return false;
-        }
-    }
-    attached
+    attached && !acts.iter().any(|act| matches!(act, Told::Leave))
 }

@@ -1,11 +1,13 @@
 // What can go wrong while a day is played.
-ghost use Rattle.std.specs.Prelude.{◌≡◌};
+ghost use Rattle.std.specs.Prelude.{◌≡◌, Some};
 ghost use Rattle.player.specs.Faults.{fault_says};
 ghost use Rattle.player.specs.declared.fault.Fault.TheVariants.{Memory};
 
 use std::alloc::AllocError;
+use std::error::Error;
+use std::fmt;
 
-#[derive(Clone, Copy)]
+#[derive(Clone, Copy, PartialEq, Eq, Debug)]
 pub enum Fault {
     // No memory is left.
     Memory,
@@ -40,6 +42,16 @@ impl From<serve::Fault> for Fault {
         }
     }
 }
+
+impl fmt::Display for Fault {
+    ghost output = { λ fault. Some (fault_says fault) };
+
+    fn fmt<W: fmt::Write>(&self, f: &mut fmt::Formatter<W>) -> fmt::Result {
+        f.write_str(says(*self))
+    }
+}
+
+impl Error for Fault {}
 
 pub fn says(fault: Fault) -> &'static str
     ensures { result.now ≡ fault_says fault }

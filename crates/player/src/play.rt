@@ -29,9 +29,7 @@ impl Player {
     pub fn new(heap: Global) -> Result<Player, Fault>
         ensures { IfOk result (λ p. Begins p) }
     {
-        let Some(size) = Size::new(1, 1) else {
-            return Err(Fault::NoSize);
-        };
+        let size = Size::new(1, 1).unwrap();
         Ok(Player {
             memory: vec![in heap; 0u64; MEMORY]?,
             out: vec![in heap; 0u8; OUT]?,
@@ -47,26 +45,22 @@ impl Player {
     }
 
     // Whoever attaches has a fresh screen.
-    fn look(&mut self, heap: Global, columns: u64, rows: u64) -> Result<(), Fault>
+    fn look(&mut self, columns: u64, rows: u64) -> Result<(), Fault>
         ensures { OnOk result (Looked self.old columns rows self.new) }
     {
-        let Some(size) = Size::new(columns as usize, rows as usize) else {
-            return Err(Fault::NoSize);
-        };
-        self.screen = Screen::new(heap, size)?;
+        let size = Size::new(columns as usize, rows as usize).ok_or(Fault::NoSize)?;
+        self.screen = Screen::new(*self.memory.allocator(), size)?;
         self.attached = true;
         Ok(())
     }
 
     // What comes to the screen itself.
-    fn attend(&mut self, heap: Global, coming: Coming) -> Result<(), Fault>
+    fn attend(&mut self, coming: Coming) -> Result<(), Fault>
         ensures { OnOk result ((bs : List ℕ) → Attended self.old (event_of coming bs) self.new) }
     {
         match coming {
-            Coming::Look(columns, rows) => self.look(heap, columns, rows),
-            Coming::Key(_) => Ok(()),
-            Coming::From(_) => Ok(()),
-            Coming::Gone(_) => Ok(()),
+            Coming::Look(columns, rows) => self.look(columns, rows),
+            _ => Ok(()),
         }
     }
 
@@ -104,21 +98,16 @@ impl Player {
         if sent > grants {
             return Err(Fault::TooMany);
         }
-        match self.tally.add(sent, grants) {
-            Some(tally) => {
-                self.tally = tally;
-                Ok(())
-            }
-            None => Err(Fault::TooLong),
-        }
+        self.tally = self.tally.add(sent, grants).ok_or(Fault::TooLong)?;
+        Ok(())
     }
 
     // One thing that comes; whether it is over then. After a fault nothing is said of the player.
-    pub fn comes(&mut self, heap: Global, coming: Coming, bytes: &[u8]) -> Result<bool, Fault>
+    pub fn comes(&mut self, coming: Coming, bytes: &[u8]) -> Result<bool, Fault>
         ensures { IfOk result (λ over. Plays detaching_machine (event_of coming bytes.now) self.old over self.new) }
     {
-        self.attend(heap, coming)?;
-        let before = Vec::from_slice(heap, self.screen.cells.as_slice())?;
+        self.attend(coming)?;
+        let before = self.screen.cells.clone()?;
         let over = self.serve(coming, bytes)?;
         self.see()?;
         self.judge(before.as_slice(), over)?;

@@ -20,10 +20,8 @@ impl Screen {
         ensures { IfOk result (λ s. (screen_of s ≡ fresh size.wide size.high) × (whole_screen s ≡ true)) }
     {
         let mut cells = vec![in heap; 0u64; size.cells()]?;
-        match Terminal::start(size, cells.as_mut_slice()) {
-            Some(term) => Ok(Screen { term, cells }),
-            None => Err(AllocError),
-        }
+        let term = Terminal::start(size, cells.as_mut_slice()).unwrap();
+        Ok(Screen { term, cells })
     }
 
     // Bytes of any number; nothing, and false, where the cells are not the terminal's.

@@ -1,7 +1,7 @@
 // The screen: bytes from standard input on a terminal of COLUMNS by ROWS, which is written out at the end.
 #![tactic(auto)]
 
-use anyhow::anyhow;
+use anyhow::{Context, bail};
 use grid::size::Size;
 use shown::screen::Unwritten;
 use shown::show::show;
@@ -20,12 +20,9 @@ fn size(rt: &HostRuntime) -> anyhow::Result<Size> {
     let mut args = env::args(rt)?;
     let _program = args.next();
     let (Some(columns), Some(rows), None) = (args.next(), args.next(), args.next()) else {
-        return Err(anyhow!(USAGE));
+        bail!(USAGE);
     };
-    match size_of(columns.as_str(), rows.as_str()) {
-        Some(size) => Ok(size),
-        None => Err(anyhow!(USAGE)),
-    }
+    size_of(columns.as_str(), rows.as_str()).context(USAGE)
 }
 
 fn run(rt: &HostRuntime) -> anyhow::Result<()> {
@@ -37,8 +34,8 @@ fn run(rt: &HostRuntime) -> anyhow::Result<()> {
     let mut text = Vec::new(heap);
     match show(&mut text, size, cells.as_mut_slice(), bytes.as_slice()) {
         Ok(()) => {}
-        Err(Unwritten::WrongCells) => return Err(anyhow!("the cells are not the screen's")),
-        Err(Unwritten::NoMemory) => return Err(anyhow!("out of memory")),
+        Err(Unwritten::WrongCells) => bail!("the cells are not the screen's"),
+        Err(Unwritten::NoMemory) => bail!("out of memory"),
     }
     rt.stdout().write_all(text.as_slice())?;
     Ok(())
