@@ -1,6 +1,6 @@
 // What can go wrong while a day is played.
 ghost use Rattle.std.specs.Prelude.{◌≡◌, Some};
-ghost use Rattle.player.specs.Faults.{fault_says};
+ghost use Rattle.player.specs.Faults.{fault_from, fault_says};
 ghost use Rattle.player.specs.declared.fault.Fault.TheVariants.{Memory};
 
 use std::alloc::AllocError;
@@ -34,6 +34,8 @@ impl From<AllocError> for Fault {
 }
 
 impl From<serve::Fault> for Fault {
+    ghost from_gives = { λ e r. r ≡ fault_from e };
+
     fn from(e: serve::Fault) -> Fault {
         match e {
             serve::Fault::Memory => Fault::Memory,

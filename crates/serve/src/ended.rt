@@ -1,5 +1,6 @@
 // How serving one thing ends, and what can go wrong.
-ghost use Rattle.std.specs.Prelude.{◌≡◌};
+ghost use Rattle.std.specs.Prelude.{◌≡◌, Some};
+ghost use Rattle.serve.specs.Faults.{said_of};
 ghost use Rattle.serve.specs.declared.ended.Fault.TheVariants.{Memory};
 
 use std::alloc::AllocError;
@@ -25,12 +26,14 @@ pub enum Fault {
 }
 
 impl fmt::Display for Fault {
+    ghost output = { λ fault. Some (said_of fault) };
+
     fn fmt<W: fmt::Write>(&self, f: &mut fmt::Formatter<W>) -> fmt::Result {
-        match self {
-            Fault::Memory => AllocError.fmt(f),
-            Fault::Stuck => f.write_str("the machine does not come to wait"),
-            Fault::Refused => f.write_str("the machine refuses its memory"),
-        }
+        f.write_str(match self {
+            Fault::Memory => "memory allocation failed",
+            Fault::Stuck => "the machine does not come to wait",
+            Fault::Refused => "the machine refuses its memory",
+        })
     }
 }
 
