@@ -8,13 +8,13 @@ use Rattle.grid.proofs.Regions.{length_rows, rows_wide}
 use Rattle.terminal.specs.Terms.{term_on}
 use Rattle.terminal.specs.Answer.{Behind, Fed, said}
 use Rattle.output.specs.declared.Buffer.{Buffer}
-use Rattle.terminal.specs.Does.{on, Does, Says}
+use Rattle.terminal.specs.Does.{state_of, Does, Says}
 use Rattle.terminal.specs.declared.screen.Screen.{Screen}
 use Rattle.terminal.specs.declared.state.Terminal.{Terminal}
 
 -- i bytes have been written
 pub record Feeding (first : Screen) (bytes : List ℕ) (i : ℕ) (s : Screen) : Type 0 where
-  pub term : written (on s) (drop i bytes) ≡ written (on first) bytes
+  pub term : written (state_of s) (drop i bytes) ≡ written (state_of first) bytes
   pub wide : s.term.size.wide ≡ first.term.size.wide
   pub high : s.term.size.high ≡ first.term.size.high
   pub same_row : s.cells.ghost_name ≡ first.cells.ghost_name
@@ -40,7 +40,7 @@ nothing_said most b = record { least = omega arith; few = omega arith; kept = re
 -- what answers nothing answers at most so much
 pub quietly : (most : ℕ) {old new : Screen} {f g : Term → Term} → ((t : Term) → g t ≡ f t) → Does old new f → Says most old new g
 quietly most {old} {new} e d = record {
-  term = d.term ∙ sym (e (on old));
+  term = d.term ∙ sym (e (state_of old));
   same_row = d.same_row;
   answer = let s = d.same_answer in rw s (nothing_said most old.answer.now);
   same_answer = let s = d.same_answer in rw s;
@@ -74,10 +74,10 @@ then {m} {n} {x} {y} {z} p q = record {
 pub feeding_more : (first : Screen) (bytes : List ℕ) (i : ℕ) (s r : Screen) → Feeding first bytes i s → i < length bytes → Says 10 s r (λ t. byte t (get_or bytes i 0)) → Feeding first bytes (i + 1) r
 unfolding written
 feeding_more first bytes i s r f h e =
-    let u = sound_byte s.term.size.wide s.term.size.high (on s) (get_or bytes i 0) (sound_term s.term s.cells.now (said s.answer.now) s.whole) in
+    let u = sound_byte s.term.size.wide s.term.size.high (state_of s) (get_or bytes i 0) (sound_term s.term s.cells.now (said s.answer.now) s.whole) in
     let n : 10 * i + 10 ≡ 10 * (i + 1) = omega arith in
     record {
-      term = ap (λ (v : Term). written v (drop (i + 1) bytes)) e.term ∙ (sym (at_drop_more (written (on s)) bytes i 0 h) ∙ f.term);
+      term = ap (λ (v : Term). written v (drop (i + 1) bytes)) e.term ∙ (sym (at_drop_more (written (state_of s)) bytes i 0 h) ∙ f.term);
       wide = ap (λ (v : Term). v.wide) e.term ∙ (u.is_wide ∙ f.wide);
       high = ap (λ (v : Term). v.high) e.term ∙ (u.is_high ∙ f.high);
       same_row = e.same_row ∙ f.same_row;
@@ -88,7 +88,7 @@ feeding_more first bytes i s r f h e =
 pub feeding_all : (first : Screen) (bytes : List ℕ) (i : ℕ) (s : Screen) → Feeding first bytes i s → i ≡ length bytes → Says (10 * length bytes) first s (λ t. written t bytes)
 unfolding written
 feeding_all first bytes i s f e = record {
-  term = sym (at_drop_all (written (on s)) bytes i (omega arith)) ∙ f.term;
+  term = sym (at_drop_all (written (state_of s)) bytes i (omega arith)) ∙ f.term;
   same_row = f.same_row;
   answer = rw (← e) f.answer;
   same_answer = f.same_answer;

@@ -1,5 +1,3 @@
-pub mod Lists
 pub mod Blanked
-pub mod Finals
 pub mod Lows
 pub mod Feeding

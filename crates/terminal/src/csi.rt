@@ -1,22 +1,19 @@
 // Control sequences (CSI): from a sequence's final byte to its control function.
-ghost use Rattle.std.specs.Prelude.{◌≡◌, ℕ, ◌+◌, ◌*◌, ◌≤◌, false, List, [], ◌∷◌, length, ◌≢◌};
-ghost use Rattle.grid.specs.Cells.{style_of};
+ghost use Rattle.std.specs.Prelude.{false, [], ◌∷◌, ◌≢◌};
 ghost use Rattle.meaning.specs.Bytes.{done_sequence};
 ghost use Rattle.meaning.specs.Screen.{styled, with_style};
 ghost use Rattle.meaning.specs.Words.{none_of, pick};
-ghost use Rattle.terminal.specs.Answer.{Behind, said};
 ghost use Rattle.terminal.specs.Does.{Does, Says, HasRoom};
 
 use crate::edit::Extent;
 use crate::parameters::{count_at, value_at};
 use crate::screen::Screen;
 use crate::sgr::select_graphic_rendition;
-use output::Buffer;
 
 impl Screen<'_, '_, '_> {
     // SGR; no parameter counts as 0
     fn set_rendition(&mut self, ps: &[u16])
-        ensures { Does self.old self.new (λ t. with_style t (styled (t.style) (pick (none_of ps.now) (0 ∷ []) ps.now))) }
+        ensures { Does self.old self.new (λ t. with_style t (styled t.style (pick (none_of ps.now) (0 ∷ []) ps.now))) }
     {
         if ps.is_empty() {
             self.term.rendition = select_graphic_rendition(self.term.rendition, &[0]);
@@ -27,7 +24,7 @@ impl Screen<'_, '_, '_> {
 
     // All but DSR, which answers.
     fn control_function(&mut self, ps: &[u16], b: u8)
-        requires silent { b ≢ 110 }
+        requires { b ≢ 110 }
         ensures { Does self.old self.new (λ t. done_sequence t false ps.now b) }
     {
         let k = count_at(ps, 0);

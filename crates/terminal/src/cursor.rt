@@ -1,5 +1,5 @@
 // Control functions that move the cursor, set the scroll region, or save and restore. Cells and answers stay, whatever they are.
-ghost use Rattle.std.specs.Prelude.{◌≡◌, ℕ, suc, ◌+◌, ◌-◌, ◌*◌, ◌/◌, ◌<◌, List};
+ghost use Rattle.std.specs.Prelude.{suc, ◌+◌, ◌-◌, ◌*◌, ◌/◌, ◌<◌};
 ghost use Rattle.meaning.specs.Words.{smaller};
 ghost use Rattle.meaning.specs.Screen.{at, goes_up, goes_down, goes_to, region, save, restore};
 ghost use Rattle.terminal.specs.Does.{Does};

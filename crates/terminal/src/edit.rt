@@ -1,5 +1,5 @@
 // Control functions that change cells within rows: printing, inserting, deleting, erasing. The answers stay, whatever they are.
-ghost use Rattle.std.specs.Prelude.{◌≡◌, ℕ, ◌+◌, ◌*◌, ◌<◌, List, length, MatchOption};
+ghost use Rattle.std.specs.Prelude.{◌≡◌, ◌+◌, ◌<◌, MatchOption};
 ghost use Rattle.meaning.specs.Screen.{change_row, opened, closed, wiped, wipe_row, wipe_all};
 ghost use Rattle.terminal.specs.Extents.{number_of};
 ghost use Rattle.terminal.specs.Does.{Does};
@@ -61,7 +61,7 @@ impl Screen<'_, '_, '_> {
 
     // ECH
     pub(crate) fn erase_characters(&mut self, k: usize)
-        requires k_bound { k < 65536 }
+        requires { k < 65536 }
         ensures { Does self.old self.new (λ t. change_row t (wiped t.col (t.col + k))) }
     {
         let col = self.term.cursor.col;

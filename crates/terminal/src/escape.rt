@@ -1,5 +1,5 @@
 // Control characters, and escape sequences.
-ghost use Rattle.std.specs.Prelude.{◌≡◌, ℕ, ◌*◌, List, length};
+ghost use Rattle.std.specs.Prelude.{◌≡◌};
 ghost use Rattle.meaning.specs.Screen.{escape};
 ghost use Rattle.meaning.specs.Bytes.{control, byte_read, done_escape, is_string, low_byte};
 ghost use Rattle.terminal.specs.Parsing.{string_read};

@@ -1,10 +1,10 @@
 // Bytes from a program, one after the other: the parser's states.
-ghost use Rattle.std.specs.Prelude.{◌≡◌, ◌+◌, ◌*◌, ◌≤◌, true, false, ◌&&◌, [], length, MatchOption};
+ghost use Rattle.std.specs.Prelude.{◌≡◌, ◌*◌, true, false, length, MatchOption};
 ghost use Rattle.meaning.specs.Bytes.{byte_of_sequence, byte_read, byte, written};
-ghost use Rattle.terminal.specs.Answer.{Behind, can_feed, Fed, said};
+ghost use Rattle.terminal.specs.Answer.{can_feed, Fed};
 ghost use Rattle.terminal.specs.Parsing.{parameter_read};
 ghost use Rattle.terminal.specs.Does.{Says, HasRoom};
-ghost use Rattle.terminal.specs.Terms.{term_on, numbers_of, begun_of, reading_of};
+ghost use Rattle.terminal.specs.Terms.{numbers_of, begun_of, reading_of};
 
 use crate::screen::Screen;
 use crate::state::{Parameters, Parser, Terminal};

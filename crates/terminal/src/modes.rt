@@ -1,5 +1,4 @@
 // Set mode (SM) and reset mode (RM), with the private modes.
-ghost use Rattle.std.specs.Prelude.{◌≡◌, ℕ, List};
 ghost use Rattle.meaning.specs.Bytes.{mode_one, modes};
 ghost use Rattle.terminal.specs.Does.{Does};
 

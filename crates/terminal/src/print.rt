@@ -1,5 +1,4 @@
 // Printable characters.
-ghost use Rattle.std.specs.Prelude.{◌≡◌, ℕ, ◌*◌, List, length};
 ghost use Rattle.meaning.specs.Screen.{put_sign, step_right, printed};
 ghost use Rattle.terminal.specs.Does.{Does};
 

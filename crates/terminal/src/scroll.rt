@@ -1,5 +1,4 @@
 // Control functions that move rows of cells. The answers stay, whatever they are.
-ghost use Rattle.std.specs.Prelude.{◌≡◌, ℕ, ◌*◌, List, length};
 ghost use Rattle.meaning.specs.Screen.{at, row_on, row_back, up_by, down_by, lines_in, lines_out};
 ghost use Rattle.terminal.specs.Does.{Does};
 

@@ -1,5 +1,5 @@
 // A terminal as it comes up, a full reset, and another size.
-ghost use Rattle.std.specs.Prelude.{◌≡◌, ℕ, ◌*◌, true, false, ◌&&◌, List, length, MatchOption};
+ghost use Rattle.std.specs.Prelude.{◌≡◌, ℕ, true, false, List, MatchOption};
 ghost use Rattle.meaning.specs.Screen.{fresh, with_answer, blank_row};
 ghost use Rattle.meaning.specs.Words.{so_many};
 ghost use Rattle.grid.specs.Cells.{rows_of};

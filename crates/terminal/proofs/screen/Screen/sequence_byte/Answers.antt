@@ -1,7 +1,7 @@
 use Rattle.std.proofs.Common.{List, ℕ, sym, refl, ap, ◌∙◌, arith}
 use Rattle.meaning.specs.Screen.{with_reading}
 use Rattle.meaning.specs.Bytes.{back_to_ground, done_sequence}
-use Rattle.terminal.specs.Does.{on}
+use Rattle.terminal.specs.Does.{state_of}
 use Rattle.terminal.specs.Terms.{numbers_of, begun_of}
 use Rattle.terminal.proofs.Lows.{sequence_low, sequence_done}
 use Rattle.terminal.proofs.Feeding.{nothing_said}
@@ -9,7 +9,7 @@ use Rattle.terminal.proofs.screen.Screen.sequence_byte.Goals as goal
 
 pub returns-then-b-lt64 : goal.returns-then-b-lt64
 returns-then-b-lt64 c =
-    let t = on c.args.self.now in
+    let t = state_of c.args.self.now in
     record {
       term = ap (with_reading t) c.parameter_byte-self.ensures ∙ sym (sequence_low t c.args.private (numbers_of c.args.p) (begun_of c.args.p.begun) c.args.b (omega arith));
       same_row = refl;
@@ -19,7 +19,7 @@ returns-then-b-lt64 c =
 
 pub returns : goal.returns
 returns c =
-    let t = on c.args.self.now in
+    let t = state_of c.args.self.now in
     let d = c.dispatch.ensures in
     record {
       term = d.term
