@@ -12,9 +12,6 @@ blanked_below w h r rs l =
     let s : r + 1 ≡ suc r = add-one r in
     rw (d, append-nil, s)
 
-pub blanked_above : (w r : ℕ) (rs : List (List Cell)) → rows_blanked w rs 0 r ≡ so_many r (blank_row w) ++ drop r rs
-blanked_above w r rs = rw sub-zero
-
 pub blanked_all : (w h : ℕ) (rs : List (List Cell)) → length rs ≡ h → rows_blanked w rs 0 h ≡ so_many h (blank_row w)
 blanked_all w h rs l =
     let d : drop h rs ≡ [] = drop_all h rs (omega arith) in

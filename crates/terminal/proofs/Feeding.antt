@@ -1,24 +1,25 @@
 -- The loop over bytes: what is left, from the state so far, gives the whole.
-use Rattle.std.proofs.Common.{◌≡◌, ℕ, ◌+◌, ◌-◌, ◌*◌, ◌<◌, ◌≤◌, List, [], length, get_or, drop, sym, refl, ap, ◌∙◌, arith}
+use Rattle.std.proofs.Common.{◌≡◌, ℕ, ◌+◌, ◌-◌, ◌*◌, ◌<◌, ◌≤◌, List, [], length, get_or, take, drop, sym, refl, ap, ◌∙◌, arith}
 use Rattle.std.proofs.lemmas.List.{at_drop_more, at_drop_all, drop-drop}
 use Rattle.meaning.specs.Screen.{Term}
 use Rattle.meaning.specs.Bytes.{byte, written}
 use Rattle.meaning.proofs.Sound.{Sound, rows_decide, sound_byte}
 use Rattle.grid.proofs.Regions.{length_rows, rows_wide}
-use Rattle.output.specs.declared.Buffer.{Buffer}
 use Rattle.terminal.specs.Terms.{term_on}
 use Rattle.terminal.specs.Answer.{Behind, Fed, said}
+use Rattle.output.specs.declared.Buffer.{Buffer}
+use Rattle.terminal.specs.Does.{state_of, Does, Says}
+use Rattle.terminal.specs.declared.screen.Screen.{Screen}
 use Rattle.terminal.specs.declared.state.Terminal.{Terminal}
 
--- i bytes have been written, and b is the answer so far, in the lent row that was out
-pub record Feeding (t : Terminal) (cells bytes : List ℕ) (out : Buffer) (i : ℕ) (t₁ : Terminal) (cells₁ : List ℕ) (b : Buffer) : Type 0 where
-  pub term : written (term_on t₁ cells₁ (said b)) (drop i bytes) ≡ written (term_on t cells []) bytes
-  pub wide : t₁.size.wide ≡ t.size.wide
-  pub high : t₁.size.high ≡ t.size.high
-  pub few : b.len ≤ 10 * i
-  pub kept : drop b.len b.bytes.now ≡ drop b.len out.bytes.now
-  pub long : length b.bytes.now ≡ length out.bytes.now
-  pub same_row : b.bytes.ghost_name ≡ out.bytes.ghost_name
+-- i bytes have been written
+pub record Feeding (first : Screen) (bytes : List ℕ) (i : ℕ) (s : Screen) : Type 0 where
+  pub term : written (state_of s) (drop i bytes) ≡ written (state_of first) bytes
+  pub wide : s.term.size.wide ≡ first.term.size.wide
+  pub high : s.term.size.high ≡ first.term.size.high
+  pub same_row : s.cells.ghost_name ≡ first.cells.ghost_name
+  pub answer : Behind (10 * i) first.answer.now s.answer.now
+  pub same_answer : s.answer.ghost_name ≡ first.answer.ghost_name
 
 -- a terminal with all its cells is a sound screen
 pub sound_term : (t : Terminal) (xs a : List ℕ) → length xs ≡ t.size.high * t.size.wide → Sound t.size.wide t.size.high (term_on t xs a)
@@ -33,8 +34,27 @@ sound_term t xs a l = record {
   inside = t.bottom_ok;
 }
 
-pub feeding_none : (t : Terminal) (cells bytes : List ℕ) (out : Buffer) → out.len ≡ 0 → Feeding t cells bytes out 0 t cells out
-feeding_none t cells bytes out e = record { term = rw e; wide = refl; high = refl; few = omega arith; kept = refl; long = refl; same_row = refl }
+pub nothing_said : (most : ℕ) (b : Buffer) → Behind most b b
+nothing_said most b = record { least = omega arith; few = omega arith; kept = refl; long = refl; same_row = refl }
+
+-- what answers nothing answers at most so much
+pub quietly : (most : ℕ) {old new : Screen} {f g : Term → Term} → ((t : Term) → g t ≡ f t) → Does old new f → Says most old new g
+quietly most {old} {new} e d = record {
+  term = d.term ∙ sym (e (state_of old));
+  same_row = d.same_row;
+  answer = let s = d.same_answer in rw s (nothing_said most old.answer.now);
+  same_answer = let s = d.same_answer in rw s;
+}
+
+pub feeding_none : (s : Screen) (bytes : List ℕ) → Feeding s bytes 0 s
+feeding_none s bytes = record {
+  term = refl;
+  wide = refl;
+  high = refl;
+  same_row = refl;
+  answer = nothing_said 0 s.answer.now;
+  same_answer = refl;
+}
 
 kept_on : (n r : ℕ) (old mid new : List ℕ) → n ≤ r → drop r new ≡ drop r mid → drop n mid ≡ drop n old → drop r new ≡ drop r old
 kept_on n r old mid new le e f =
@@ -42,26 +62,34 @@ kept_on n r old mid new le e f =
     let g : drop r mid ≡ drop r old = (let h = ap (λ (xs : List ℕ). drop (r - n) xs) f in let k = sym (drop-drop (r - n) n mid) ∙ (h ∙ drop-drop (r - n) n old) in rw s at k) in
     e ∙ g
 
-pub feeding_more : (t : Terminal) (cells bytes : List ℕ) (out : Buffer) (i : ℕ) (t₁ : Terminal) (cells₁ : List ℕ) (b : Buffer) (t₂ : Terminal) (cells₂ : List ℕ) (b₂ : Buffer)
-    → Feeding t cells bytes out i t₁ cells₁ b → i < length bytes → length cells₁ ≡ t₁.size.high * t₁.size.wide
-    → term_on t₂ cells₂ (said b₂) ≡ byte (term_on t₁ cells₁ (said b)) (get_or bytes i 0) → Behind 10 b b₂
-    → Feeding t cells bytes out (i + 1) t₂ cells₂ b₂
+then : {m n : ℕ} {x y z : Buffer} → Behind m x y → Behind n y z → Behind (m + n) x z
+then {m} {n} {x} {y} {z} p q = record {
+  least = let a = p.least in let b = q.least in omega arith;
+  few = let a = p.few in let b = q.few in omega arith;
+  kept = kept_on y.len z.len x.bytes.now y.bytes.now z.bytes.now q.least q.kept p.kept;
+  long = q.long ∙ p.long;
+  same_row = q.same_row ∙ p.same_row;
+}
+
+pub feeding_more : (first : Screen) (bytes : List ℕ) (i : ℕ) (s r : Screen) → Feeding first bytes i s → i < length bytes → Says 10 s r (λ t. byte t (get_or bytes i 0)) → Feeding first bytes (i + 1) r
 unfolding written
-feeding_more t cells bytes out i t₁ cells₁ b t₂ cells₂ b₂ f h l e d =
-    let u = term_on t₁ cells₁ (said b) in
-    let s = sound_byte t₁.size.wide t₁.size.high u (get_or bytes i 0) (sound_term t₁ cells₁ (said b) l) in
+feeding_more first bytes i s r f h e =
+    let u = sound_byte s.term.size.wide s.term.size.high (state_of s) (get_or bytes i 0) (sound_term s.term s.cells.now (said s.answer.now) s.whole) in
+    let n : 10 * i + 10 ≡ 10 * (i + 1) = omega arith in
     record {
-      term = ap (λ (v : Term). written v (drop (i + 1) bytes)) e ∙ (sym (at_drop_more (written u) bytes i 0 h) ∙ f.term);
-      wide = ap (λ (v : Term). v.wide) e ∙ (s.is_wide ∙ f.wide);
-      high = ap (λ (v : Term). v.high) e ∙ (s.is_high ∙ f.high);
-      few = let p = f.few in let q = d.few in omega arith;
-      kept = kept_on b.len b₂.len out.bytes.now b.bytes.now b₂.bytes.now d.least d.kept f.kept;
-      long = d.long ∙ f.long;
-      same_row = d.same_row ∙ f.same_row;
+      term = ap (λ (v : Term). written v (drop (i + 1) bytes)) e.term ∙ (sym (at_drop_more (written (state_of s)) bytes i 0 h) ∙ f.term);
+      wide = ap (λ (v : Term). v.wide) e.term ∙ (u.is_wide ∙ f.wide);
+      high = ap (λ (v : Term). v.high) e.term ∙ (u.is_high ∙ f.high);
+      same_row = e.same_row ∙ f.same_row;
+      answer = rw n at (then f.answer e.answer);
+      same_answer = e.same_answer ∙ f.same_answer;
     }
 
-pub feeding_all : (t : Terminal) (cells bytes : List ℕ) (out : Buffer) (i : ℕ) (t₁ : Terminal) (cells₁ : List ℕ) (b : Buffer)
-    → Feeding t cells bytes out i t₁ cells₁ b → i ≡ length bytes → Fed t cells bytes out.bytes.now b.len t₁ cells₁ b.bytes.now
+pub feeding_all : (first : Screen) (bytes : List ℕ) (i : ℕ) (s : Screen) → Feeding first bytes i s → i ≡ length bytes → Says (10 * length bytes) first s (λ t. written t bytes)
 unfolding written
-feeding_all t cells bytes out i t₁ cells₁ b f e =
-    record { term = sym (at_drop_all (written (term_on t₁ cells₁ (said b))) bytes i (omega arith)) ∙ f.term; wide = f.wide; high = f.high; few = let p = f.few in omega arith; kept = f.kept }
+feeding_all first bytes i s f e = record {
+  term = sym (at_drop_all (written (state_of s)) bytes i (omega arith)) ∙ f.term;
+  same_row = f.same_row;
+  answer = rw (← e) f.answer;
+  same_answer = f.same_answer;
+}

@@ -4,3 +4,4 @@ pub mod Sgr
 pub mod Answer
 pub mod Sizes
 pub mod Extents
+pub mod Does

@@ -1,39 +1,35 @@
 // Control sequences (CSI): from a sequence's final byte to its control function.
-ghost use Rattle.std.specs.Prelude.{◌≡◌, ℕ, ◌+◌, ◌*◌, ◌≤◌, false, List, [], ◌∷◌, length, ◌≢◌};
-ghost use Rattle.grid.specs.Cells.{style_of};
+ghost use Rattle.std.specs.Prelude.{false, [], ◌∷◌, ◌≢◌};
 ghost use Rattle.meaning.specs.Bytes.{done_sequence};
 ghost use Rattle.meaning.specs.Screen.{styled, with_style};
 ghost use Rattle.meaning.specs.Words.{none_of, pick};
-ghost use Rattle.terminal.specs.Answer.{Behind, said};
-ghost use Rattle.terminal.specs.Terms.{term_on};
+ghost use Rattle.terminal.specs.Does.{Does, Says, HasRoom};
 
 use crate::edit::Extent;
 use crate::parameters::{count_at, value_at};
+use crate::screen::Screen;
 use crate::sgr::select_graphic_rendition;
-use crate::state::Terminal;
-use output::Buffer;
 
-impl Terminal {
+impl Screen<'_, '_, '_> {
     // SGR; no parameter counts as 0
     fn set_rendition(&mut self, ps: &[u16])
-        ensures { (xs a : List ℕ) → term_on self.new xs a ≡ with_style (term_on self.old xs a) (styled (style_of self.old.rendition) (pick (none_of ps.now) (0 ∷ []) ps.now)) }
+        ensures { Does self.old self.new (λ t. with_style t (styled t.style (pick (none_of ps.now) (0 ∷ []) ps.now))) }
     {
         if ps.is_empty() {
-            self.rendition = select_graphic_rendition(self.rendition, &[0]);
+            self.term.rendition = select_graphic_rendition(self.term.rendition, &[0]);
         } else {
-            self.rendition = select_graphic_rendition(self.rendition, ps);
+            self.term.rendition = select_graphic_rendition(self.term.rendition, ps);
         }
     }
 
     // All but DSR, which answers.
-    fn control_function(&mut self, cells: &mut [u64], ps: &[u16], b: u8)
-        requires cells { length cells.old ≡ self.old.size.high * self.old.size.wide }
-        requires silent { b ≢ 110 }
-        ensures { (a : List ℕ) → term_on self.new cells.new a ≡ done_sequence (term_on self.old cells.old a) false ps.now b }
+    fn control_function(&mut self, ps: &[u16], b: u8)
+        requires { b ≢ 110 }
+        ensures { Does self.old self.new (λ t. done_sequence t false ps.now b) }
     {
         let k = count_at(ps, 0);
         match b {
-            b'@' => self.insert_characters(cells, k),
+            b'@' => self.insert_characters(k),
             b'A' => self.cursor_up(k),
             b'B' => self.cursor_down(k),
             b'C' => self.cursor_forward(k),
@@ -44,21 +40,21 @@ impl Terminal {
             b'H' | b'f' => self.cursor_position(k - 1, count_at(ps, 1) - 1),
             b'J' => {
                 if let Some(part) = Extent::of(value_at(ps, 0)) {
-                    self.erase_in_display(cells, part);
+                    self.erase_in_display(part);
                 }
             }
             b'K' => {
                 if let Some(part) = Extent::of(value_at(ps, 0)) {
-                    self.erase_in_line(cells, part);
+                    self.erase_in_line(part);
                 }
             }
-            b'L' => self.insert_lines(cells, k),
-            b'M' => self.delete_lines(cells, k),
-            b'P' => self.delete_characters(cells, k),
-            b'S' => self.scroll_up(cells, k),
-            b'T' => self.scroll_down(cells, k),
-            b'X' => self.erase_characters(cells, k),
-            b'd' => self.cursor_position(k - 1, self.cursor.col),
+            b'L' => self.insert_lines(k),
+            b'M' => self.delete_lines(k),
+            b'P' => self.delete_characters(k),
+            b'S' => self.scroll_up(k),
+            b'T' => self.scroll_down(k),
+            b'X' => self.erase_characters(k),
+            b'd' => self.cursor_position(k - 1, self.term.cursor.col),
             b'h' => self.set_modes(true, false, ps),
             b'l' => self.set_modes(false, false, ps),
             b'm' => self.set_rendition(ps),
@@ -69,25 +65,16 @@ impl Terminal {
         }
     }
 
-    pub(crate) fn dispatch(
-        &mut self,
-        cells: &mut [u64],
-        private: bool,
-        ps: &[u16],
-        b: u8,
-        answer: &mut Buffer,
-    )
-        requires cells { length cells.old ≡ self.old.size.high * self.old.size.wide }
-        requires room { answer.old.len + 10 ≤ length answer.old.bytes.now }
-        ensures term { term_on self.new cells.new (said answer.new) ≡ done_sequence (term_on self.old cells.old (said answer.old)) private ps.now b }
-        ensures answer { Behind 10 answer.old answer.new }
+    pub(crate) fn dispatch(&mut self, private: bool, ps: &[u16], b: u8)
+        requires { HasRoom 10 self.old }
+        ensures { Says 10 self.old self.new (λ t. done_sequence t private ps.now b) }
     {
         match (private, b) {
             (true, b'h') => self.set_modes(true, true, ps),
             (true, b'l') => self.set_modes(false, true, ps),
             (true, _) => {}
-            (false, b'n') => self.device_status(value_at(ps, 0), answer),
-            (false, _) => self.control_function(cells, ps, b),
+            (false, b'n') => self.term.device_status(value_at(ps, 0), self.answer),
+            (false, _) => self.control_function(ps, b),
         }
     }
 }

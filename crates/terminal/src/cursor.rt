@@ -1,18 +1,19 @@
 // Control functions that move the cursor, set the scroll region, or save and restore. Cells and answers stay, whatever they are.
-ghost use Rattle.std.specs.Prelude.{◌≡◌, ℕ, suc, ◌+◌, ◌-◌, ◌*◌, ◌/◌, ◌<◌, List};
+ghost use Rattle.std.specs.Prelude.{suc, ◌+◌, ◌-◌, ◌*◌, ◌/◌, ◌<◌};
 ghost use Rattle.meaning.specs.Words.{smaller};
 ghost use Rattle.meaning.specs.Screen.{at, goes_up, goes_down, goes_to, region, save, restore};
-ghost use Rattle.terminal.specs.Terms.{term_on};
+ghost use Rattle.terminal.specs.Does.{Does};
 
-use crate::state::{Cursor, Kept, Terminal};
+use crate::screen::Screen;
+use crate::state::{Cursor, Kept};
 
-impl Terminal {
+impl Screen<'_, '_, '_> {
     // To a place on the screen; a pending wrap is over.
     pub(crate) fn move_to(&mut self, row: usize, col: usize)
-        requires { (row < self.old.size.high) × (col < self.old.size.wide) }
-        ensures { (xs a : List ℕ) → term_on self.new xs a ≡ at (term_on self.old xs a) row col }
+        requires { (row < self.old.term.size.high) × (col < self.old.term.size.wide) }
+        ensures { Does self.old self.new (λ t. at t row col) }
     {
-        self.cursor = Cursor {
+        self.term.cursor = Cursor {
             row,
             col,
             pending: false,
@@ -21,65 +22,69 @@ impl Terminal {
 
     // BS
     pub(crate) fn backspace(&mut self)
-        ensures { (xs a : List ℕ) → term_on self.new xs a ≡ at (term_on self.old xs a) self.old.cursor.row (self.old.cursor.col - 1) }
+        ensures { Does self.old self.new (λ t. at t t.row (t.col - 1)) }
     {
         self.cursor_back(1);
     }
 
     // HT
     pub(crate) fn horizontal_tab(&mut self)
-        ensures { (xs a : List ℕ) → term_on self.new xs a ≡ at (term_on self.old xs a) self.old.cursor.row (smaller (self.old.size.wide - 1) (8 * suc (self.old.cursor.col / 8))) }
+        ensures { Does self.old self.new (λ t. at t t.row (smaller (t.wide - 1) (8 * suc (t.col / 8)))) }
     {
-        self.cursor_column(8 * (self.cursor.col / 8 + 1));
+        self.cursor_column(8 * (self.term.cursor.col / 8 + 1));
     }
 
     // CR
     pub(crate) fn carriage_return(&mut self)
-        ensures { (xs a : List ℕ) → term_on self.new xs a ≡ at (term_on self.old xs a) self.old.cursor.row 0 }
+        ensures { Does self.old self.new (λ t. at t t.row 0) }
     {
-        self.move_to(self.cursor.row, 0);
+        self.move_to(self.term.cursor.row, 0);
     }
 
     // CUU
     pub(crate) fn cursor_up(&mut self, k: usize)
-        ensures { (xs a : List ℕ) → term_on self.new xs a ≡ goes_up (term_on self.old xs a) k }
+        ensures { Does self.old self.new (λ t. goes_up t k) }
     {
-        let Cursor { row, col, .. } = self.cursor;
-        let limit = if self.top <= row { self.top } else { 0 };
+        let Cursor { row, col, .. } = self.term.cursor;
+        let limit = if self.term.top <= row {
+            self.term.top
+        } else {
+            0
+        };
         self.move_to(row.saturating_sub(k).max(limit), col);
     }
 
     // CUD
     pub(crate) fn cursor_down(&mut self, k: usize)
-        ensures { (xs a : List ℕ) → term_on self.new xs a ≡ goes_down (term_on self.old xs a) k }
+        ensures { Does self.old self.new (λ t. goes_down t k) }
     {
-        let Cursor { row, col, .. } = self.cursor;
-        let limit = if row <= self.bottom {
-            self.bottom
+        let Cursor { row, col, .. } = self.term.cursor;
+        let limit = if row <= self.term.bottom {
+            self.term.bottom
         } else {
-            self.size.high - 1
+            self.term.size.high - 1
         };
         self.move_to(row.saturating_add(k).min(limit), col);
     }
 
     // CUF
     pub(crate) fn cursor_forward(&mut self, k: usize)
-        ensures { (xs a : List ℕ) → term_on self.new xs a ≡ at (term_on self.old xs a) self.old.cursor.row (smaller (self.old.size.wide - 1) (self.old.cursor.col + k)) }
+        ensures { Does self.old self.new (λ t. at t t.row (smaller (t.wide - 1) (t.col + k))) }
     {
-        self.cursor_column(self.cursor.col.saturating_add(k));
+        self.cursor_column(self.term.cursor.col.saturating_add(k));
     }
 
     // CUB
     pub(crate) fn cursor_back(&mut self, k: usize)
-        ensures { (xs a : List ℕ) → term_on self.new xs a ≡ at (term_on self.old xs a) self.old.cursor.row (self.old.cursor.col - k) }
+        ensures { Does self.old self.new (λ t. at t t.row (t.col - k)) }
     {
-        let Cursor { row, col, .. } = self.cursor;
+        let Cursor { row, col, .. } = self.term.cursor;
         self.move_to(row, col.saturating_sub(k));
     }
 
     // CNL
     pub(crate) fn next_line(&mut self, k: usize)
-        ensures { (xs a : List ℕ) → term_on self.new xs a ≡ at (goes_down (term_on self.old xs a) k) (goes_down (term_on self.old xs a) k).row 0 }
+        ensures { Does self.old self.new (λ t. at (goes_down t k) (goes_down t k).row 0) }
     {
         self.cursor_down(k);
         self.carriage_return();
@@ -87,7 +92,7 @@ impl Terminal {
 
     // CPL
     pub(crate) fn previous_line(&mut self, k: usize)
-        ensures { (xs a : List ℕ) → term_on self.new xs a ≡ at (goes_up (term_on self.old xs a) k) (goes_up (term_on self.old xs a) k).row 0 }
+        ensures { Does self.old self.new (λ t. at (goes_up t k) (goes_up t k).row 0) }
     {
         self.cursor_up(k);
         self.carriage_return();
@@ -95,64 +100,70 @@ impl Terminal {
 
     // CHA, the column counted from 0
     pub(crate) fn cursor_column(&mut self, col: usize)
-        ensures { (xs a : List ℕ) → term_on self.new xs a ≡ at (term_on self.old xs a) self.old.cursor.row (smaller (self.old.size.wide - 1) col) }
+        ensures { Does self.old self.new (λ t. at t t.row (smaller (t.wide - 1) col)) }
     {
-        self.move_to(self.cursor.row, col.min(self.size.wide - 1));
+        self.move_to(self.term.cursor.row, col.min(self.term.size.wide - 1));
     }
 
     // CUP, row and column counted from 0
     pub(crate) fn cursor_position(&mut self, r: usize, c: usize)
-        ensures { (xs a : List ℕ) → term_on self.new xs a ≡ goes_to (term_on self.old xs a) r c }
+        ensures { Does self.old self.new (λ t. goes_to t r c) }
     {
-        let row = if self.modes.origin {
-            self.top.saturating_add(r).min(self.bottom)
+        let row = if self.term.modes.origin {
+            self.term.top.saturating_add(r).min(self.term.bottom)
         } else {
-            r.min(self.size.high - 1)
+            r.min(self.term.size.high - 1)
         };
-        self.move_to(row, c.min(self.size.wide - 1));
+        self.move_to(row, c.min(self.term.size.wide - 1));
     }
 
     // DECSTBM, rows counted from 1, the last 0 for the screen's last
     pub(crate) fn set_scroll_region(&mut self, first: usize, last: usize)
-        ensures { (xs a : List ℕ) → term_on self.new xs a ≡ region (term_on self.old xs a) first last }
+        ensures { Does self.old self.new (λ t. region t first last) }
     {
         let end = if last == 0 {
-            self.size.high
+            self.term.size.high
         } else {
-            last.min(self.size.high)
+            last.min(self.term.size.high)
         };
         if first < end {
-            self.top = first.saturating_sub(1);
-            self.bottom = end - 1;
+            // In a copy, since between the two writes the first row may be below the last.
+            let mut term = self.term;
+            term.top = first.saturating_sub(1);
+            term.bottom = end - 1;
+            self.term = term;
             self.cursor_position(0, 0);
         }
     }
 
     // DECSC
     pub(crate) fn save_cursor(&mut self)
-        ensures { (xs a : List ℕ) → term_on self.new xs a ≡ save (term_on self.old xs a) }
+        ensures { Does self.old self.new save }
     {
-        let Cursor { row, col, .. } = self.cursor;
-        self.kept = Kept {
+        let Cursor { row, col, .. } = self.term.cursor;
+        self.term.kept = Kept {
             row,
             col,
-            rendition: self.rendition,
-            origin: self.modes.origin,
+            rendition: self.term.rendition,
+            origin: self.term.modes.origin,
         };
     }
 
     // DECRC
     pub(crate) fn restore_cursor(&mut self)
-        ensures { (xs a : List ℕ) → term_on self.new xs a ≡ restore (term_on self.old xs a) }
+        ensures { Does self.old self.new restore }
     {
         let Kept {
             row,
             col,
             rendition,
             origin,
-        } = self.kept;
-        self.move_to(row.min(self.size.high - 1), col.min(self.size.wide - 1));
-        self.rendition = rendition;
-        self.modes.origin = origin;
+        } = self.term.kept;
+        self.move_to(
+            row.min(self.term.size.high - 1),
+            col.min(self.term.size.wide - 1),
+        );
+        self.term.rendition = rendition;
+        self.term.modes.origin = origin;
     }
 }

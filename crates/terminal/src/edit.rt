@@ -1,10 +1,11 @@
 // Control functions that change cells within rows: printing, inserting, deleting, erasing. The answers stay, whatever they are.
-ghost use Rattle.std.specs.Prelude.{◌≡◌, ℕ, ◌+◌, ◌*◌, ◌<◌, List, length, MatchOption};
+ghost use Rattle.std.specs.Prelude.{◌≡◌, ◌+◌, ◌<◌, MatchOption};
 ghost use Rattle.meaning.specs.Screen.{change_row, opened, closed, wiped, wipe_row, wipe_all};
 ghost use Rattle.terminal.specs.Extents.{number_of};
-ghost use Rattle.terminal.specs.Terms.{term_on};
+ghost use Rattle.terminal.specs.Does.{Does};
 
-use crate::state::{Cursor, Terminal};
+use crate::screen::Screen;
+use crate::state::Cursor;
 use grid::{line, rows};
 
 // What of a line (EL) or of a display (ED) is erased.
@@ -31,63 +32,76 @@ impl Extent {
     }
 }
 
-impl Terminal {
+impl Screen<'_, '_, '_> {
     // ICH
-    pub(crate) fn insert_characters(&self, cells: &mut [u64], k: usize)
-        requires { length cells.old ≡ self.now.size.high * self.now.size.wide }
-        ensures { (a : List ℕ) → term_on self.now cells.new a ≡ change_row (term_on self.now cells.old a) (opened self.now.size.wide self.now.cursor.col k) }
+    pub(crate) fn insert_characters(&mut self, k: usize)
+        ensures { Does self.old self.new (λ t. change_row t (opened t.wide t.col k)) }
     {
-        line::insert_blanks(cells, self.size, self.cursor.row, self.cursor.col, k);
+        line::insert_blanks(
+            self.cells,
+            self.term.size,
+            self.term.cursor.row,
+            self.term.cursor.col,
+            k,
+        );
     }
 
     // DCH
-    pub(crate) fn delete_characters(&self, cells: &mut [u64], k: usize)
-        requires { length cells.old ≡ self.now.size.high * self.now.size.wide }
-        ensures { (a : List ℕ) → term_on self.now cells.new a ≡ change_row (term_on self.now cells.old a) (closed self.now.size.wide self.now.cursor.col k) }
+    pub(crate) fn delete_characters(&mut self, k: usize)
+        ensures { Does self.old self.new (λ t. change_row t (closed t.wide t.col k)) }
     {
-        line::delete_cells(cells, self.size, self.cursor.row, self.cursor.col, k);
+        line::delete_cells(
+            self.cells,
+            self.term.size,
+            self.term.cursor.row,
+            self.term.cursor.col,
+            k,
+        );
     }
 
     // ECH
-    pub(crate) fn erase_characters(&self, cells: &mut [u64], k: usize)
-        requires k_bound { k < 65536 }
-        requires cells_len { length cells.old ≡ self.now.size.high * self.now.size.wide }
-        ensures { (a : List ℕ) → term_on self.now cells.new a ≡ change_row (term_on self.now cells.old a) (wiped self.now.cursor.col (self.now.cursor.col + k)) }
+    pub(crate) fn erase_characters(&mut self, k: usize)
+        requires { k < 65536 }
+        ensures { Does self.old self.new (λ t. change_row t (wiped t.col (t.col + k))) }
     {
-        let col = self.cursor.col;
-        line::erase(cells, self.size, self.cursor.row, col, col + k);
+        let col = self.term.cursor.col;
+        line::erase(
+            self.cells,
+            self.term.size,
+            self.term.cursor.row,
+            col,
+            col + k,
+        );
     }
 
     // EL
-    pub(crate) fn erase_in_line(&self, cells: &mut [u64], part: Extent)
-        requires { length cells.old ≡ self.now.size.high * self.now.size.wide }
-        ensures { (a : List ℕ) → term_on self.now cells.new a ≡ wipe_row (term_on self.now cells.old a) (number_of part) }
+    pub(crate) fn erase_in_line(&mut self, part: Extent)
+        ensures { Does self.old self.new (λ t. wipe_row t (number_of part)) }
     {
-        let Cursor { row, col, .. } = self.cursor;
+        let Cursor { row, col, .. } = self.term.cursor;
         match part {
-            Extent::ToEnd => line::erase(cells, self.size, row, col, self.size.wide),
-            Extent::ToStart => line::erase(cells, self.size, row, 0, col + 1),
-            Extent::All => line::erase(cells, self.size, row, 0, self.size.wide),
+            Extent::ToEnd => line::erase(self.cells, self.term.size, row, col, self.term.size.wide),
+            Extent::ToStart => line::erase(self.cells, self.term.size, row, 0, col + 1),
+            Extent::All => line::erase(self.cells, self.term.size, row, 0, self.term.size.wide),
         };
     }
 
     // ED
-    pub(crate) fn erase_in_display(&self, cells: &mut [u64], part: Extent)
-        requires { length cells.old ≡ self.now.size.high * self.now.size.wide }
-        ensures { (a : List ℕ) → term_on self.now cells.new a ≡ wipe_all (term_on self.now cells.old a) (number_of part) }
+    pub(crate) fn erase_in_display(&mut self, part: Extent)
+        ensures { Does self.old self.new (λ t. wipe_all t (number_of part)) }
     {
-        let row = self.cursor.row;
+        let row = self.term.cursor.row;
         match part {
             Extent::ToEnd => {
-                self.erase_in_line(cells, part);
-                rows::erase_rows(cells, self.size, row + 1, self.size.high);
+                self.erase_in_line(part);
+                rows::erase_rows(self.cells, self.term.size, row + 1, self.term.size.high);
             }
             Extent::ToStart => {
-                self.erase_in_line(cells, part);
-                rows::erase_rows(cells, self.size, 0, row);
+                self.erase_in_line(part);
+                rows::erase_rows(self.cells, self.term.size, 0, row);
             }
             Extent::All => {
-                rows::erase_rows(cells, self.size, 0, self.size.high);
+                rows::erase_rows(self.cells, self.term.size, 0, self.term.size.high);
             }
         }
     }

@@ -1,10 +1,12 @@
 // Bytes from a program, one after the other: the parser's states.
-ghost use Rattle.std.specs.Prelude.{◌≡◌, ◌+◌, ◌*◌, ◌≤◌, true, false, ◌&&◌, [], length, MatchOption};
+ghost use Rattle.std.specs.Prelude.{◌≡◌, ◌*◌, true, false, length, MatchOption};
 ghost use Rattle.meaning.specs.Bytes.{byte_of_sequence, byte_read, byte, written};
-ghost use Rattle.terminal.specs.Answer.{Behind, can_feed, Fed, said};
+ghost use Rattle.terminal.specs.Answer.{can_feed, Fed};
 ghost use Rattle.terminal.specs.Parsing.{parameter_read};
-ghost use Rattle.terminal.specs.Terms.{term_on, numbers_of, begun_of, reading_of};
+ghost use Rattle.terminal.specs.Does.{Says, HasRoom};
+ghost use Rattle.terminal.specs.Terms.{numbers_of, begun_of, reading_of};
 
+use crate::screen::Screen;
 use crate::state::{Parameters, Parser, Terminal};
 use output::Buffer;
 
@@ -20,64 +22,62 @@ fn parameter_byte(private: bool, p: Parameters, b: u8) -> Parser
     }
 }
 
-impl Terminal {
+impl Screen<'_, '_, '_> {
     // A byte from 32 to 126 in a control sequence.
-    fn sequence_byte(
-        &mut self,
-        cells: &mut [u64],
-        private: bool,
-        p: Parameters,
-        b: u8,
-        answer: &mut Buffer,
-    )
-        requires cells { length cells.old ≡ self.old.size.high * self.old.size.wide }
-        requires room { answer.old.len + 10 ≤ length answer.old.bytes.now }
-        ensures term { term_on self.new cells.new (said answer.new) ≡ byte_of_sequence (term_on self.old cells.old (said answer.old)) private (numbers_of p) (begun_of p.begun) b }
-        ensures answer { Behind 10 answer.old answer.new }
+    fn sequence_byte(&mut self, private: bool, p: Parameters, b: u8)
+        requires { HasRoom 10 self.old }
+        ensures { Says 10 self.old self.new (λ t. byte_of_sequence t private (numbers_of p) (begun_of p.begun) b) }
     {
         if b < b'@' {
-            self.parser = parameter_byte(private, p, b);
+            self.term.parser = parameter_byte(private, p, b);
             return;
         }
-        self.parser = Parser::Ground;
+        self.term.parser = Parser::Ground;
         let all = p.all();
-        self.dispatch(cells, private, &all.list[..all.count], b, answer);
+        self.dispatch(private, &all.list[..all.count], b);
     }
 
     // A byte from 32 on but DEL.
-    fn read(&mut self, cells: &mut [u64], b: u8, answer: &mut Buffer)
-        requires cells { length cells.old ≡ self.old.size.high * self.old.size.wide }
-        requires room { answer.old.len + 10 ≤ length answer.old.bytes.now }
-        ensures term { term_on self.new cells.new (said answer.new) ≡ byte_read (term_on self.old cells.old (said answer.old)) (reading_of self.old.parser) b }
-        ensures answer { Behind 10 answer.old answer.new }
+    fn read(&mut self, b: u8)
+        requires { HasRoom 10 self.old }
+        ensures { Says 10 self.old self.new (λ t. byte_read t t.reading b) }
     {
-        match self.parser {
-            Parser::Ground => self.print(cells, if b < 128 { b } else { b'?' }),
-            Parser::Escape => self.escape_byte(cells, b),
-            Parser::Sequence(private, p) if b < 128 => self.sequence_byte(
-                cells, private, p, b, answer,
-            ),
-            Parser::Sequence(_, _) => self.parser = Parser::Ignored,
-            Parser::Ignored if matches!(b, b'@'..=b'~') => self.parser = Parser::Ground,
-            Parser::TextEnd if b == b'\\' => self.parser = Parser::Ground,
-            Parser::TextEnd => self.parser = Parser::Text,
+        match self.term.parser {
+            Parser::Ground => self.print(if b < 128 { b } else { b'?' }),
+            Parser::Escape => self.escape_byte(b),
+            Parser::Sequence(private, p) if b < 128 => self.sequence_byte(private, p, b),
+            Parser::Sequence(_, _) => self.term.parser = Parser::Ignored,
+            Parser::Ignored if matches!(b, b'@'..=b'~') => self.term.parser = Parser::Ground,
+            Parser::TextEnd if b == b'\\' => self.term.parser = Parser::Ground,
+            Parser::TextEnd => self.term.parser = Parser::Text,
             Parser::Ignored | Parser::Text => {}
         }
     }
 
-    fn feed_byte(&mut self, cells: &mut [u64], b: u8, answer: &mut Buffer)
-        requires cells { length cells.old ≡ self.old.size.high * self.old.size.wide }
-        requires room { answer.old.len + 10 ≤ length answer.old.bytes.now }
-        ensures term { term_on self.new cells.new (said answer.new) ≡ byte (term_on self.old cells.old (said answer.old)) b }
-        ensures answer { Behind 10 answer.old answer.new }
+    fn feed_byte(&mut self, b: u8)
+        requires { HasRoom 10 self.old }
+        ensures { Says 10 self.old self.new (λ t. byte t b) }
     {
         match b {
-            0..=31 => self.control_byte(cells, b),
+            0..=31 => self.control_byte(b),
             127 => {}
-            _ => self.read(cells, b, answer),
+            _ => self.read(b),
         }
     }
 
+    fn write(&mut self, bytes: &[u8])
+        requires { HasRoom (10 * length bytes.now) self.old }
+        ensures says { Says (10 * length bytes.now) self.old self.new (λ t. written t bytes.now) }
+        ensures wide { self.new.term.size.wide ≡ self.old.term.size.wide }
+        ensures high { self.new.term.size.high ≡ self.old.term.size.high }
+    {
+        for b in bytes {
+            self.feed_byte(*b);
+        }
+    }
+}
+
+impl Terminal {
     // Up to 4,096 bytes. The answer comes into the lent row, and how long it is is returned; none, with nothing changed, if the cells are not the
     // screen's, there are more bytes, or the row is shorter than ten times as many.
     pub fn feed(&mut self, cells: &mut [u64], bytes: &[u8], out: &mut [u8]) -> Option<usize>
@@ -89,9 +89,13 @@ impl Terminal {
             return None;
         }
         let mut answer = Buffer { bytes: out, len: 0 };
-        for b in bytes {
-            self.feed_byte(cells, *b, &mut answer);
-        }
+        let mut screen = Screen {
+            term: *self,
+            cells,
+            answer: &mut answer,
+        };
+        screen.write(bytes);
+        *self = screen.term;
         Some(answer.len)
     }
 }

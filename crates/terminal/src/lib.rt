@@ -11,6 +11,7 @@ mod parameters;
 mod print;
 mod report;
 pub mod restyle;
+mod screen;
 mod scroll;
 mod sgr;
 mod start;

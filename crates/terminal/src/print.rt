@@ -1,49 +1,47 @@
 // Printable characters.
-ghost use Rattle.std.specs.Prelude.{◌≡◌, ℕ, ◌*◌, List, length};
 ghost use Rattle.meaning.specs.Screen.{put_sign, step_right, printed};
-ghost use Rattle.terminal.specs.Terms.{term_on};
+ghost use Rattle.terminal.specs.Does.{Does};
 
-use crate::state::{Cursor, Terminal};
+use crate::screen::Screen;
+use crate::state::Cursor;
 use grid::cell::Glyph;
 use grid::line;
 
-impl Terminal {
+impl Screen<'_, '_, '_> {
     // A character at the cursor, which stays.
-    fn put(&self, cells: &mut [u64], sign: u8)
-        requires { length cells.old ≡ self.now.size.high * self.now.size.wide }
-        ensures { (a : List ℕ) → term_on self.now cells.new a ≡ put_sign (term_on self.now cells.old a) sign }
+    fn put(&mut self, sign: u8)
+        ensures { Does self.old self.new (λ t. put_sign t sign) }
     {
-        let Cursor { row, col, .. } = self.cursor;
-        if self.modes.insert {
-            line::insert_blanks(cells, self.size, row, col, 1);
+        let Cursor { row, col, .. } = self.term.cursor;
+        if self.term.modes.insert {
+            line::insert_blanks(self.cells, self.term.size, row, col, 1);
         }
         let glyph = Glyph {
             sign: sign as u32,
-            rendition: self.rendition,
+            rendition: self.term.rendition,
         };
-        line::put(cells, self.size, row, col, u64::from(glyph));
+        line::put(self.cells, self.term.size, row, col, u64::from(glyph));
     }
 
     // One column on; at the last the cursor stays, with a wrap pending if autowrap is set.
     fn advance(&mut self)
-        ensures { (xs a : List ℕ) → term_on self.new xs a ≡ step_right (term_on self.old xs a) }
+        ensures { Does self.old self.new step_right }
     {
-        let Cursor { row, col, .. } = self.cursor;
-        if col + 1 < self.size.wide {
+        let Cursor { row, col, .. } = self.term.cursor;
+        if col + 1 < self.term.size.wide {
             self.move_to(row, col + 1);
         } else {
-            self.cursor.pending = self.modes.autowrap;
+            self.term.cursor.pending = self.term.modes.autowrap;
         }
     }
 
-    pub(crate) fn print(&mut self, cells: &mut [u64], sign: u8)
-        requires { length cells.old ≡ self.old.size.high * self.old.size.wide }
-        ensures { (a : List ℕ) → term_on self.new cells.new a ≡ printed (term_on self.old cells.old a) sign }
+    pub(crate) fn print(&mut self, sign: u8)
+        ensures { Does self.old self.new (λ t. printed t sign) }
     {
-        if self.cursor.pending {
-            self.new_line(cells);
+        if self.term.cursor.pending {
+            self.new_line();
         }
-        self.put(cells, sign);
+        self.put(sign);
         self.advance();
     }
 }

@@ -1,12 +1,14 @@
 // A terminal as it comes up, a full reset, and another size.
-ghost use Rattle.std.specs.Prelude.{◌≡◌, ℕ, ◌*◌, true, false, ◌&&◌, List, length, MatchOption};
+ghost use Rattle.std.specs.Prelude.{◌≡◌, ℕ, true, false, List, MatchOption};
 ghost use Rattle.meaning.specs.Screen.{fresh, with_answer, blank_row};
 ghost use Rattle.meaning.specs.Words.{so_many};
 ghost use Rattle.grid.specs.Cells.{rows_of};
 ghost use Rattle.grid.specs.Edits.{on_screen};
 ghost use Rattle.terminal.specs.Sizes.{Resized};
+ghost use Rattle.terminal.specs.Does.{Does};
 ghost use Rattle.terminal.specs.Terms.{term_on};
 
+use crate::screen::Screen;
 use crate::state::{Cursor, Kept, Modes, Parser, Terminal};
 use grid::cell::Rendition;
 use grid::resize::resize;
@@ -60,15 +62,6 @@ impl Terminal {
         Some(Terminal::at_first(size))
     }
 
-    // RIS
-    pub(crate) fn reset(&mut self, cells: &mut [u64])
-        requires { length cells.old ≡ self.old.size.high * self.old.size.wide }
-        ensures { (a : List ℕ) → term_on self.new cells.new a ≡ with_answer (fresh self.old.size.wide self.old.size.high) a }
-    {
-        rows::erase_rows(cells, self.size, 0, self.size.high);
-        *self = Terminal::at_first(self.size);
-    }
-
     // Another size, from the old cells into new ones; false, with nothing changed, if either are not as many as their size asks for.
     pub fn resize(&mut self, old: &[u64], size: Size, new: &mut [u64]) -> bool
         ensures { Resized self.old old.now size.wide size.high new.old result self.new new.new }
@@ -96,5 +89,16 @@ impl Terminal {
             parser: self.parser,
         };
         true
+    }
+}
+
+impl Screen<'_, '_, '_> {
+    // RIS
+    pub(crate) fn reset(&mut self)
+        ensures { Does self.old self.new (λ t. with_answer (fresh t.wide t.high) t.answer) }
+    {
+        let size = self.term.size;
+        rows::erase_rows(self.cells, size, 0, size.high);
+        self.term = Terminal::at_first(size);
     }
 }
