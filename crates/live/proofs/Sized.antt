@@ -6,7 +6,6 @@ use Rattle.std.proofs.lemmas.Bool.{and_from, eq-eqb}
 use Rattle.meaning.specs.Screen.{fitted}
 use Rattle.meaning.specs.Panes.{Pane, with_panes}
 use Rattle.grid.specs.Cells.{rows_of, cells_of}
-use Rattle.grid.specs.Edits.{on_screen}
 use Rattle.grid.proofs.Codes.{cells_of_rows}
 use Rattle.grid.specs.declared.size.Size.{Size}
 use Rattle.terminal.specs.Terms.{term_on}
@@ -80,7 +79,3 @@ after_both m cs vs x j p l e n q =
     after_cells_next (over m cells_at cs) vs x j lo q
     ∙ (ap (λ (ps : List Pane). encode (over m cells_at cs) (state (with_panes (with_next (glass_of x m) j) ps) (record { wide = x.size.wide; high = x.size.high; cells = vs; pen = x.pen }))) (panes_anew m cs x.pane p l e n)
     ∙ encode_cells m cs (anew x j p m cs vs) (record { id = p.id; term = term_on p.terminal cs [] }) [] l refl (ap length c) (omega arith))
-
--- cells lent by their size are as many as that asks for
-pub lent_on : (m : List ℕ) (s : Size) (n : ℕ) → length m ≡ 238304 → n ≡ s.high * s.wide → on_screen s.wide s.high (take ((38304 + n) - 38304) (drop 38304 m)) ≡ true
-lent_on m s n l e = eq-eqb _ _ (lent_long m s n l e ∙ e)

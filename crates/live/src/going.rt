@@ -13,7 +13,7 @@ use turns::show::advance;
 // Nothing has come. Where the memory holds no state nothing changes.
 pub(crate) fn resume(memory: &mut [u64; MEMORY], out: &mut [u8; OUT]) -> Told
     ensures does { Goes next memory.old memory.new result out.old out.new }
-    ensures row { length out.new ≡ 65536 }
+    ensures row { length out.new ≡ OUT }
 {
     match load(memory) {
         Some(Loaded::Is(x)) => advance(memory, x, out),

@@ -55,7 +55,7 @@ fn size_of(columns: u64, rows: u64) -> Size
 }
 
 // What comes to a machine that is there.
-fn turn(
+fn take_turn(
     memory: &mut [u64; MEMORY],
     x: Machine,
     coming: Coming,
@@ -82,13 +82,13 @@ pub(crate) fn take(
     out: &mut [u8; OUT],
 ) -> Told
     ensures does { Goes (comes (event_of coming bytes.now)) memory.old memory.new result out.old out.new }
-    ensures row { length out.new ≡ 65536 }
+    ensures row { length out.new ≡ OUT }
 {
     if !is_proper(coming, bytes) {
         return Told::Wait;
     }
     match load(memory) {
-        Some(Loaded::Is(x)) => turn(memory, x, coming, bytes, out),
+        Some(Loaded::Is(x)) => take_turn(memory, x, coming, bytes, out),
         Some(Loaded::First) => match coming {
             Coming::Look(columns, rows) => {
                 attach_first(memory, at_first(), size_of(columns, rows))

@@ -13,7 +13,7 @@ use meaning::Told;
 // The end of a program that has no pane changes nothing.
 pub fn take_end(memory: &mut [u64; MEMORY], x: Machine, id: u64, out: &mut [u8; OUT]) -> Told
     ensures does { Does (turned x memory.old (gone id)) memory.old memory.new result out.old out.new }
-    ensures row { length out.new ≡ 65536 }
+    ensures row { length out.new ≡ OUT }
 {
     match x.pane {
         Some(p) if p.id == id => {

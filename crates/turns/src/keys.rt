@@ -58,7 +58,7 @@ fn after_prefix(memory: &mut [u64; MEMORY], x: Machine, c: u8, out: &mut [u8; OU
 // Byte 1 is the prefix. While nobody looks a key does nothing.
 pub fn take_key(memory: &mut [u64; MEMORY], x: Machine, c: u8, out: &mut [u8; OUT]) -> Told
     ensures does { Does (turned x memory.old (key c)) memory.old memory.new result out.old out.new }
-    ensures row { length out.new ≡ 65536 }
+    ensures row { length out.new ≡ OUT }
 {
     if !x.attached {
         return advance(memory, x, out);

@@ -100,7 +100,7 @@ fn show(memory: &mut [u64; MEMORY], x: Machine, p: Held, out: &mut [u8; OUT]) ->
 // array was borrowed out of a slice.
 pub fn advance(memory: &mut [u64; MEMORY], x: Machine, out: &mut [u8; OUT]) -> Told
     ensures does { Does (going (glass_of x memory.old) (view_of x memory.old)) memory.old memory.new result out.old out.new }
-    ensures row { length out.new ≡ 65536 }
+    ensures row { length out.new ≡ OUT }
 {
     match x.pane {
         Some(p) if x.attached => show(memory, x, p, out),

@@ -4,7 +4,7 @@ use Rattle.live.specs.Coming.{event_of}
 use Rattle.live.specs.declared.coming.Coming.{Coming}
 use Rattle.live.proofs.Telling.{few_bytes}
 use Rattle.live.proofs.Stepping.{goes_turned, end_turned}
-use Rattle.live.proofs.turn.turn.Goals as goal
+use Rattle.live.proofs.turn.take_turn.Goals as goal
 
 pub take_bytes-requires : goal.take_bytes-requires
 take_bytes-requires c = few_bytes c.args.coming c.args.bytes.now _ c.in-From.is c.requires.proper
