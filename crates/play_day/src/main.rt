@@ -4,11 +4,10 @@
 ghost use Rattle.engine.specs.Detaching.{detaching_machine};
 ghost use Rattle.player.specs.Plays.{Plays};
 
-use anyhow::bail;
 use following::Follows;
 use player::Player;
 use serve::Coming;
-use shown::screen::{Unwritten, write_screen};
+use shown::screen::write_screen;
 use std::io::Write;
 
 // The player, and where its screen is written to.
@@ -40,11 +39,7 @@ impl Follows for Played<'_> {
     fn show(&self) -> anyhow::Result<()> {
         let mut text = Vec::new(self.rt.alloc());
         let screen = &self.player.screen;
-        match write_screen(&mut text, &screen.term, screen.cells.as_slice()) {
-            Ok(()) => {}
-            Err(Unwritten::WrongCells) => bail!("the cells are not the screen's"),
-            Err(Unwritten::NoMemory) => bail!("out of memory"),
-        }
+        write_screen(&mut text, &screen.term, screen.cells.as_slice())?;
         Ok(self.rt.stdout().write_all(text.as_slice())?)
     }
 }

@@ -3,7 +3,6 @@
 
 use anyhow::{Context, bail};
 use grid::size::Size;
-use shown::screen::Unwritten;
 use shown::show::show;
 use std::env;
 use std::io::{Read, Write};
@@ -32,11 +31,7 @@ fn run(rt: &HostRuntime) -> anyhow::Result<()> {
     rt.stdin().read_to_end(&mut bytes)?;
     let mut cells = vec![in heap; 0u64; size.cells()]?;
     let mut text = Vec::new(heap);
-    match show(&mut text, size, cells.as_mut_slice(), bytes.as_slice()) {
-        Ok(()) => {}
-        Err(Unwritten::WrongCells) => bail!("the cells are not the screen's"),
-        Err(Unwritten::NoMemory) => bail!("out of memory"),
-    }
+    show(&mut text, size, cells.as_mut_slice(), bytes.as_slice())?;
     rt.stdout().write_all(text.as_slice())?;
     Ok(())
 }

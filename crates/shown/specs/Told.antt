@@ -1,5 +1,5 @@
 -- What a caller learns of a screen written out behind what there was: all of the text, or nothing.
-use Rattle.std.specs.Prelude.{◌≡◌, ℕ, Bool, true, false, List, [], ◌++◌, Ok, Err, Result}
+use Rattle.std.specs.Prelude.{◌≡◌, ℕ, Bool, true, false, List, [], ◌++◌, Ok, Err, Result, codes}
 use Rattle.meaning.specs.Screen.{Term, fresh}
 use Rattle.meaning.specs.Bytes.{written}
 use Rattle.grid.specs.Edits.{on_screen}
@@ -23,3 +23,8 @@ Told old t cells r new = Adds old (on_screen t.size.wide t.size.high cells) (ter
 -- the screen that bytes leave on a terminal as it comes up
 abbrev pub Shows : List ℕ → Size → List ℕ → List ℕ → Result Unit Unwritten → List ℕ → Type 0
 Shows old size cells bytes r new = Adds old (on_screen size.wide size.high cells) (written (fresh size.wide size.high) bytes) r new
+
+-- what is said of nothing written
+abbrev pub unwritten_says : Unwritten → List ℕ
+unwritten_says WrongCells = codes "the cells are not the screen's"
+unwritten_says NoMemory = codes "out of memory"
