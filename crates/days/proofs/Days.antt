@@ -1,12 +1,16 @@
--- A day is its first line and the rest of it.
-use Rattle.std.proofs.Common.{◌≡◌, ℕ, suc, ◌+◌, ◌-◌, ◌<◌, ◌≤◌, true, false, not, eqb, ◌⊎◌, List, [], ◌∷◌, ◌++◌, map, length, take, drop, is_ok, Err, Result, sym, refl, ap, ◌∙◌, subst, inl, inr, ⊎_elim, append_assoc, append-nil, suc-add, one-add, arith}
-use Rattle.std.proofs.lemmas.List.{length-append, length-map, length_push, take_at, get_or_at}
+-- The lines of a day: what the iterator over them gives, and the loop that reads them.
+use Rattle.std.proofs.Common.{◌≡◌, ℕ, suc, ◌+◌, ◌-◌, ◌<◌, ◌≤◌, true, false, not, eqb, ◌⊎◌, List, [], ◌∷◌, ◌++◌, map, length, get_or, take, drop, is_ok, Err, sym, refl, ap, ◌∙◌, inl, inr, ⊎_elim, append_assoc, append-nil, suc-add, one-add, arith, Bor}
+use Rattle.std.proofs.lemmas.List.{length-append, length-map, length-take-le, map_push, take_more, take_all, take-map, get_or-map}
+use Rattle.std.specs.Iterator.{YieldsFirstRef}
+use Rattle.std.proofs.lemmas.Iterator.{YieldsList}
+use Rattle.std.proofs.lemmas.Iterator.Consumers.{YieldsList-from_first}
 use Rattle.std.proofs.lemmas.Bool.{cond-true, cond-false, cases_Bool}
 use Rattle.meaning.specs.Words.{every}
 use Rattle.days.specs.declared.fault.Fault.{Fault}
 use Rattle.days.specs.declared.fault.Fault.TheVariants.{Memory}
 use Rattle.days.specs.declared.line.Line.{Line}
-use Rattle.days.specs.Line.{Thing, line_of, up_to}
+use Rattle.days.specs.declared.lines.Lines.{Lines}
+use Rattle.days.specs.Line.{line_of, up_to}
 use Rattle.days.specs.Day.{lines_from, lines_of, readings, said, BadLine}
 
 abbrev Cut : List ℕ → List ℕ → Type 0
@@ -32,40 +36,40 @@ lines_cut (x ∷ xs) [] h = ap (λ ys. (x ∷ ys) ∷ []) (sym (append-nil xs))
 lines_cut begun (c ∷ cs) h =
     ⊎_elim (ends_here begun cs c) (λ e. goes_on begun cs c e (lines_cut (begun ++ c ∷ []) cs (simp length-append (omega arith)))) (cases_Bool (eqb c 10))
 
-pub readings_first : (cs : List ℕ) → 0 < length cs → readings cs ≡ line_of (take (up_to cs 10) cs) ∷ readings (drop (up_to cs 10 + 1) cs)
-readings_first cs h = ap (map line_of) (lines_cut [] cs (omega arith))
+-- what the iterator over lines gives, and where it ends
+pub lines_first : (cs : List ℕ) → 0 < length cs → lines_of cs ≡ take (up_to cs 10) cs ∷ lines_of (drop (up_to cs 10 + 1) cs)
+lines_first cs h = lines_cut [] cs (omega arith)
+
+pub no_lines : (cs : List ℕ) → length cs ≤ 0 → lines_of cs ≡ []
+unfolding lines_from
+no_lines [] h = refl
+no_lines (c ∷ cs) h = absurd (omega arith)
+
+pub all_lines : (cs : List ℕ) (s : Lines) → s.0.now ≡ cs → YieldsList (YieldsFirstRef (λ (l : Lines). lines_of l.0.now)) (λ (x : Bor (List ℕ)). x.now) s (lines_of cs)
+all_lines cs s e = YieldsList-from_first (λ (x : Bor (List ℕ)). x.now) (λ (l : Lines). lines_of l.0.now) (lines_of cs) (ap lines_of e)
 
 all_ok : (ls : List Line) → every is_ok (map said ls) ≡ true
 all_ok [] = refl
 all_ok (l ∷ ls) = all_ok ls
 
-pub one_longer : (old new : List Line) (o : Result Thing Fault) → map said new ≡ map said old ++ o ∷ [] → length new ≡ length old + 1
-one_longer old new o p = sym (length-map new said) ∙ ap length p ∙ length_push (map said old) o ∙ ap (λ k. k + 1) (length-map old said)
+-- where the loop stands: the first n lines are kept, and `line` is the next
+module _ (text line : List ℕ) (old : List Line) (n : ℕ) (so_far : map said old ≡ map line_of (take n (lines_of text))) (some : n < length (lines_of text)) (next : line ≡ get_or (lines_of text) n line) where
+  pub one_line_on : (new : List Line) → map said new ≡ map said old ++ line_of line ∷ [] → map said new ≡ map line_of (take (n + 1) (lines_of text))
+  one_line_on new p = p ∙ ap (λ xs. xs ++ line_of line ∷ []) so_far ∙ sym (map_push line_of (take n (lines_of text)) line)
+      ∙ ap (map line_of) (ap (λ l. take n (lines_of text) ++ l ∷ []) next ∙ sym (take_more (lines_of text) n line some))
 
--- where the loop stands: so many lines kept, and what is left, of which `line` is the first
-module _ (all : List (Result Thing Fault)) (old : List Line) (rest line : List ℕ) (some : 0 < length rest) (so_far : map said old ++ readings rest ≡ all) (cut : line ≡ take (up_to rest 10) rest) where
-  first_is : readings rest ≡ line_of line ∷ readings (drop (up_to rest 10 + 1) rest)
-  first_is = readings_first rest some ∙ ap (λ l. line_of l ∷ readings (drop (up_to rest 10 + 1) rest)) (sym cut)
+  as_many : length old ≡ n
+  as_many = sym (length-map old said) ∙ ap length so_far ∙ length-map (take n (lines_of text)) line_of ∙ length-take-le n (lines_of text) (omega arith)
 
-  pub one_line_on : (new : List Line) (rest' : List ℕ) → map said new ≡ map said old ++ line_of line ∷ [] → rest' ≡ drop (up_to rest 10 + 1) rest → map said new ++ readings rest' ≡ all
-  one_line_on new rest' p q =
-      ap (λ xs. xs ++ readings rest') p ∙ append_assoc (map said old) (line_of line ∷ []) (readings rest')
-      ∙ ap (λ xs. map said old ++ line_of line ∷ readings xs) q ∙ ap (λ xs. map said old ++ xs) (sym first_is) ∙ so_far
-
-  all_is : all ≡ map said old ++ line_of line ∷ readings (drop (up_to rest 10 + 1) rest)
-  all_is = sym so_far ∙ ap (λ xs. map said old ++ xs) first_is
-
-  pub line_is_bad : (k : ℕ) (e : Fault) → k ≡ length old → (e ≡ Memory) ⊎ (line_of line ≡ Err e) → BadLine all (record { line = k + 1; fault = e })
+  pub line_is_bad : (k : ℕ) (e : Fault) → k ≡ length old → (e ≡ Memory) ⊎ (line_of line ≡ Err e) → BadLine (readings text) (record { line = k + 1; fault = e })
   line_is_bad k e p b =
-      let long : length (map said old) ≡ k + 1 - 1 = length-map old said ∙ omega arith in
-      subst (λ xs. BadLine xs (record { line = k + 1; fault = e })) (sym all_is) (record {
+      let i : k + 1 - 1 ≡ n = omega (arith, as_many) in
+      record {
         counted = omega arith;
-        within = simp (length-append, length-map) (omega arith);
-        before = ap (every is_ok) (take_at (map said old) _ _ long) ∙ all_ok old;
-        bad = ⊎_elim inl (λ q. inr (get_or_at (map said old) (line_of line) _ _ _ long ∙ q)) b;
-      })
+        within = simp length-map (omega (arith, as_many));
+        before = rw (i, take-map line_of n (lines_of text), ← so_far) (all_ok old);
+        bad = ⊎_elim inl (λ q. inr (rw i (get_or-map line_of (lines_of text) n line _ some ∙ ap line_of (sym next) ∙ q))) b;
+      }
 
-pub no_line_left : (all : List (Result Thing Fault)) (old : List Line) (rest : List ℕ) → length rest ≤ 0 → map said old ++ readings rest ≡ all → all ≡ map said old
-unfolding lines_from
-no_line_left all old [] h p = sym p ∙ append-nil (map said old)
-no_line_left all old (c ∷ cs) h p = absurd (omega arith)
+pub all_read : (text : List ℕ) (day : List Line) (n : ℕ) → map said day ≡ map line_of (take n (lines_of text)) → n ≡ length (lines_of text) → readings text ≡ map said day
+all_read text day n so_far e = sym (so_far ∙ ap (map line_of) (take_all n (lines_of text) (omega arith)))

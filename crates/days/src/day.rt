@@ -4,7 +4,7 @@ ghost use Rattle.days.specs.Line.{line_of};
 
 use crate::fault::{BadDay, Fault};
 use crate::line::Line;
-use crate::parts::cut;
+use crate::lines::Lines;
 use crate::reading::read_line;
 use std::alloc::Global;
 
@@ -20,14 +20,11 @@ pub fn read_day(heap: Global, text: &[u8]) -> Result<Vec<Line>, BadDay>
     ensures { DayRead result text.now }
 {
     let mut day = Vec::new(heap);
-    let mut rest = text;
-    while !rest.is_empty() {
-        let (first, more) = cut(rest, b'\n');
+    for text in Lines(text) {
         let line = day.len() + 1;
-        if let Err(fault) = keep(heap, &mut day, first) {
+        if let Err(fault) = keep(heap, &mut day, text) {
             return Err(BadDay { line, fault });
         }
-        rest = more;
     }
     Ok(day)
 }

@@ -5,6 +5,7 @@ mod acts;
 mod day;
 mod fault;
 mod line;
+mod lines;
 mod log;
 mod mode;
 mod number;

@@ -1,24 +1,24 @@
-use Rattle.std.proofs.Common.{◌<◌, ◌≤◌, length, vec_items, ap, ◌∙◌, arith, length-drop}
-use Rattle.std.proofs.lemmas.Bool.Decides.{nat_tests}
-use Rattle.days.proofs.Days.{one_longer, one_line_on, line_is_bad, no_line_left}
+use Rattle.std.proofs.Common.{length, vec_items, ap, ◌∙◌}
+use Rattle.std.proofs.lemmas.List.{length_push}
+use Rattle.std.proofs.lemmas.Iterator.Consumers.{YieldsList-turn, YieldsList-end}
+use Rattle.days.specs.declared.lines.Lines.{Lines}
+use Rattle.days.proofs.Days.{all_lines, one_line_on, line_is_bad, all_read}
 use Rattle.days.proofs.day.read_day.Goals as goal
 
 pub returns-in-Err : goal.returns-in-Err
 returns-in-Err c =
-    let some : 0 < length c.loop-rest.rest.now = grind (arith, nat_tests) in
-    line_is_bad _ (vec_items c.loop-rest.day) c.loop-rest.rest.now _ some c.loop-rest.invariant.0 c.cut.ensures.before _ _
-    (c.len-line.ensures ∙ c.loop-rest.day.ok.0) c.in-Err.ensures
+    let all = all_lines c.args.text.now _ (ap (λ (l : Lines). l.0.now) c.into_iter-text-iterator.ensures.into_iter_gives) in
+    let turn = YieldsList-turn all c.loop-text.yielded c.loop-text.text-iterator c.loop-text.yielded_by c.next.result c.next.new.self c.in-Some.text c.in-Some.is c.next.ensures.steps in
+    line_is_bad c.args.text.now c.in-Some.text.now (vec_items c.loop-text.day) (length c.loop-text.yielded) c.loop-text.invariant turn.0 turn.1 _ _ (c.len-line.ensures ∙ c.loop-text.day.ok.0) c.in-Err.ensures
 
-pub loop-rest-preserved : goal.loop-rest-preserved
-loop-rest-preserved c =
-    let some : 0 < length c.loop-rest.rest.now = grind (arith, nat_tests) in
-    let longer = one_longer (vec_items c.loop-rest.day) (vec_items c.keep.new.day) _ c.in_default.ensures in
-    let shorter = ap length c.cut.ensures.behind ∙ length-drop _ c.loop-rest.rest.now in (
-      one_line_on _ (vec_items c.loop-rest.day) c.loop-rest.rest.now _ some c.loop-rest.invariant.0 c.cut.ensures.before (vec_items c.keep.new.day) _ c.in_default.ensures c.cut.ensures.behind,
-      omega (arith, c.loop-rest.day.ok.0, c.keep.new.day.ok.0),
-    )
+pub loop-text-preserved : goal.loop-text-preserved
+loop-text-preserved c =
+    let all = all_lines c.args.text.now _ (ap (λ (l : Lines). l.0.now) c.into_iter-text-iterator.ensures.into_iter_gives) in
+    let turn = YieldsList-turn all c.loop-text.yielded c.loop-text.text-iterator c.loop-text.yielded_by c.next.result c.next.new.self c.in-Some.text c.in-Some.is c.next.ensures.steps in
+    rw (length_push c.loop-text.yielded c.in-Some.text) (one_line_on c.args.text.now c.in-Some.text.now (vec_items c.loop-text.day) (length c.loop-text.yielded) c.loop-text.invariant turn.0 turn.1 (vec_items c.keep.new.day) c.in_default.ensures)
 
 pub returns : goal.returns
 returns c =
-    let none : length c.loop-rest.rest.now ≤ 0 = grind (arith, nat_tests) in
-    no_line_left _ (vec_items c.loop-rest.day) _ none c.loop-rest.invariant.0
+    let all = all_lines c.args.text.now _ (ap (λ (l : Lines). l.0.now) c.into_iter-text-iterator.ensures.into_iter_gives) in
+    let end = YieldsList-end all c.loop-text.yielded c.loop-text.text-iterator c.loop-text.yielded_by c.next.result c.next.new.self c.in-None.is c.next.ensures.steps in
+    all_read c.args.text.now (vec_items c.loop-text.day) (length c.loop-text.yielded) c.loop-text.invariant end.1

@@ -1,9 +1,7 @@
-use Rattle.std.proofs.Common.{◌≡◌, ◌+◌, ◌≤◌, ◌++◌, map, length, vec_items, vec_len}
-use Rattle.days.specs.Day.{readings, said}
+use Rattle.std.proofs.Common.{◌≡◌, map, length, take, vec_items}
+use Rattle.days.specs.Line.{line_of}
+use Rattle.days.specs.Day.{lines_of, said}
 use Rattle.days.proofs.day.read_day.Given as goal
 
-abbrev pub invariant-loop-rest : goal.invariant-loop-rest
-invariant-loop-rest l = (map said (vec_items l.day) ++ readings l.rest ≡ readings l.text) × (vec_len l.day + length l.rest ≤ length l.text)
-
-abbrev pub decreases-loop-rest : goal.decreases-loop-rest
-decreases-loop-rest l = length l.rest
+abbrev pub invariant-loop-text : goal.invariant-loop-text
+invariant-loop-text l = map said (vec_items l.day) ≡ map line_of (take (length l.yielded) (lines_of l.text))
