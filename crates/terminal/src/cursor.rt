@@ -106,6 +106,7 @@ impl Screen<'_, '_, '_> {
     }
 
     // CUP, row and column counted from 0
+    #[tactic(auto, using(std::proofs::lemmas::Bool::Decides::nat_tests), unfolding(meaning::specs::Screen::goes_to))]
     pub(crate) fn cursor_position(&mut self, r: usize, c: usize)
         ensures { Does self.old self.new (λ t. goes_to t r c) }
     {

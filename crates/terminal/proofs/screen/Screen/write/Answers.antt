@@ -1,9 +1,6 @@
 use Rattle.std.proofs.Common.{arith}
-use Rattle.terminal.proofs.Feeding.{feeding_none, feeding_more, feeding_all}
+use Rattle.terminal.proofs.Feeding.{feeding_more, feeding_all}
 use Rattle.terminal.proofs.screen.Screen.write.Goals as goal
-
-pub loop-b-init : goal.loop-b-init
-loop-b-init c = feeding_none _ _
 
 pub loop-b-preserved : goal.loop-b-preserved
 loop-b-preserved c = feeding_more _ _ _ _ _ c.loop-b.invariant c.loop-b-test.true c.feed_byte.ensures
