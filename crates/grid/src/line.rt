@@ -7,14 +7,15 @@ ghost use Rattle.grid.specs.Edits.{Edited, on_screen, row_changed};
 
 use crate::cell::BLANK;
 use crate::shift::{shift_in, shift_out};
-use crate::size::Size;
+use crate::size::{Place, Size};
 
 // One cell is written.
-pub fn put(cells: &mut [u64], size: Size, row: usize, col: usize, cell: u64) -> bool
+pub fn put(cells: &mut [u64], size: Size, place: Place, cell: u64) -> bool
     ensures { Edited size.wide size.high cells.old cells.new
-        (on_screen size.wide size.high cells.old && (nat_lt row size.high && nat_lt col size.wide)) result
-        (row_changed (rows_of size.wide size.high cells.old) row (λ x. put_at x col (unpacked cell))) }
+        (on_screen size.wide size.high cells.old && (nat_lt place.row size.high && nat_lt place.col size.wide)) result
+        (row_changed (rows_of size.wide size.high cells.old) place.row (λ x. put_at x place.col (unpacked cell))) }
 {
+    let Place { row, col } = place;
     if cells.len() != size.cells() || row >= size.high || col >= size.wide {
         return false;
     }
@@ -23,11 +24,12 @@ pub fn put(cells: &mut [u64], size: Size, row: usize, col: usize, cell: u64) -> 
 }
 
 // Blanks come in at col; what they push over the row's end is lost.
-pub fn insert_blanks(cells: &mut [u64], size: Size, row: usize, col: usize, count: usize) -> bool
+pub fn insert_blanks(cells: &mut [u64], size: Size, place: Place, count: usize) -> bool
     ensures { Edited size.wide size.high cells.old cells.new
-        (on_screen size.wide size.high cells.old && (nat_lt row size.high && nat_lt col size.wide)) result
-        (row_changed (rows_of size.wide size.high cells.old) row (opened size.wide col count)) }
+        (on_screen size.wide size.high cells.old && (nat_lt place.row size.high && nat_lt place.col size.wide)) result
+        (row_changed (rows_of size.wide size.high cells.old) place.row (opened size.wide place.col count)) }
 {
+    let Place { row, col } = place;
     if cells.len() != size.cells() || row >= size.high || col >= size.wide {
         return false;
     }
@@ -37,11 +39,12 @@ pub fn insert_blanks(cells: &mut [u64], size: Size, row: usize, col: usize, coun
 }
 
 // Cells leave at col; the rest of the row moves up to there, and blanks come in at its end.
-pub fn delete_cells(cells: &mut [u64], size: Size, row: usize, col: usize, count: usize) -> bool
+pub fn delete_cells(cells: &mut [u64], size: Size, place: Place, count: usize) -> bool
     ensures { Edited size.wide size.high cells.old cells.new
-        (on_screen size.wide size.high cells.old && (nat_lt row size.high && nat_lt col size.wide)) result
-        (row_changed (rows_of size.wide size.high cells.old) row (closed size.wide col count)) }
+        (on_screen size.wide size.high cells.old && (nat_lt place.row size.high && nat_lt place.col size.wide)) result
+        (row_changed (rows_of size.wide size.high cells.old) place.row (closed size.wide place.col count)) }
 {
+    let Place { row, col } = place;
     if cells.len() != size.cells() || row >= size.high || col >= size.wide {
         return false;
     }

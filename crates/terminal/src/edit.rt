@@ -37,26 +37,14 @@ impl Screen<'_, '_, '_> {
     pub(crate) fn insert_characters(&mut self, k: usize)
         ensures { Does self.old self.new (λ t. change_row t (opened t.wide t.col k)) }
     {
-        line::insert_blanks(
-            self.cells,
-            self.term.size,
-            self.term.cursor.row,
-            self.term.cursor.col,
-            k,
-        );
+        line::insert_blanks(self.cells, self.term.size, self.term.cursor.place(), k);
     }
 
     // DCH
     pub(crate) fn delete_characters(&mut self, k: usize)
         ensures { Does self.old self.new (λ t. change_row t (closed t.wide t.col k)) }
     {
-        line::delete_cells(
-            self.cells,
-            self.term.size,
-            self.term.cursor.row,
-            self.term.cursor.col,
-            k,
-        );
+        line::delete_cells(self.cells, self.term.size, self.term.cursor.place(), k);
     }
 
     // ECH

@@ -12,15 +12,15 @@ impl Screen<'_, '_, '_> {
     fn put(&mut self, sign: u8)
         ensures { Does self.old self.new (λ t. put_sign t sign) }
     {
-        let Cursor { row, col, .. } = self.term.cursor;
+        let place = self.term.cursor.place();
         if self.term.modes.insert {
-            line::insert_blanks(self.cells, self.term.size, row, col, 1);
+            line::insert_blanks(self.cells, self.term.size, place, 1);
         }
         let glyph = Glyph {
             sign: sign as u32,
             rendition: self.term.rendition,
         };
-        line::put(self.cells, self.term.size, row, col, u64::from(glyph));
+        line::put(self.cells, self.term.size, place, u64::from(glyph));
     }
 
     // One column on; at the last the cursor stays, with a wrap pending if autowrap is set.

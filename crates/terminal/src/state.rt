@@ -1,8 +1,8 @@
 // A terminal's state but for its cells, which are lent beside it. This file cites no definition of specs/.
-ghost use Rattle.std.specs.Prelude.{◌<◌, ◌≤◌};
+ghost use Rattle.std.specs.Prelude.{◌≡◌, ◌<◌, ◌≤◌};
 
 use grid::cell::Rendition;
-use grid::size::Size;
+use grid::size::{Place, Size};
 
 // Where the next character goes; `pending` is a pending wrap.
 #[derive(Clone, Copy)]
@@ -10,6 +10,17 @@ pub struct Cursor {
     pub row: usize,
     pub col: usize,
     pub pending: bool,
+}
+
+impl Cursor {
+    pub(crate) fn place(self) -> Place
+        ensures { (result.row ≡ self.row) × (result.col ≡ self.col) }
+    {
+        Place {
+            row: self.row,
+            col: self.col,
+        }
+    }
 }
 
 #[derive(Clone, Copy)]
