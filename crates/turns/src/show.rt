@@ -54,8 +54,7 @@ fn send_cells(
 }
 
 // The closing go.
-fn send_cursor(size: Size, pane: &Terminal, pen: &mut Pen, out: &mut [u8]) -> usize
-    requires { 65536 ≤ length out.old }
+fn send_cursor(size: Size, pane: &Terminal, pen: &mut Pen, out: &mut [u8; OUT]) -> usize
     ensures { (rs : List (List Cell)) (a : List ℕ) (i n : ℕ) (p : Bool) →
         Closed (closing_at size.wide size.high (spot (one_pane size.wide size.high i (term_of pane.now rs a) n p)) pen.old)
         pen.new result out.old out.new }
