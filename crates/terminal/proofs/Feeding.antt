@@ -1,12 +1,12 @@
 -- The loop over bytes: what is left, from the state so far, gives the whole.
-use Rattle.std.proofs.Common.{◌≡◌, ℕ, ◌+◌, ◌-◌, ◌*◌, ◌<◌, ◌≤◌, List, [], length, get_or, take, drop, sym, refl, ap, ◌∙◌, arith}
+use Rattle.std.proofs.Common.{◌≡◌, ℕ, ◌+◌, ◌-◌, ◌*◌, ◌<◌, ◌≤◌, List, length, get_or, drop, sym, refl, ap, ◌∙◌, arith}
 use Rattle.std.proofs.lemmas.List.{at_drop_more, at_drop_all, drop-drop}
 use Rattle.meaning.specs.Screen.{Term}
 use Rattle.meaning.specs.Bytes.{byte, written}
 use Rattle.meaning.proofs.Sound.{Sound, rows_decide, sound_byte}
 use Rattle.grid.proofs.Regions.{length_rows, rows_wide}
 use Rattle.terminal.specs.Terms.{term_on}
-use Rattle.terminal.specs.Answer.{Behind, Fed, said}
+use Rattle.terminal.specs.Answer.{Behind, said}
 use Rattle.output.specs.declared.Buffer.{Buffer}
 use Rattle.terminal.specs.Does.{state_of, Does, Says}
 use Rattle.terminal.specs.declared.screen.Screen.{Screen}

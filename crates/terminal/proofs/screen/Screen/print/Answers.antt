@@ -1,7 +1,7 @@
-use Rattle.std.proofs.Common.{◌≡◌, ap, ◌∙◌, rules}
+use Rattle.std.proofs.Common.{ap, ◌∙◌, rules}
 use Rattle.meaning.specs.Words.{pick}
 use Rattle.meaning.specs.Screen.{Term, at, row_on, put_sign, step_right, printed}
-use Rattle.terminal.specs.Does.{Does, state_of}
+use Rattle.terminal.specs.Does.{Does}
 use Rattle.terminal.proofs.screen.Screen.print.Goals as goal
 use Rattle.terminal.proofs.screen.Screen.print.Goals.{then-self, else-self}
 

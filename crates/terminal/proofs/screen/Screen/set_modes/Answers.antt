@@ -1,7 +1,7 @@
 use Rattle.std.proofs.Common.{◌+◌, drop, sym, ap, ◌∙◌}
 use Rattle.std.proofs.lemmas.List.{at_drop_more, at_drop_all}
 use Rattle.meaning.specs.Screen.{Term}
-use Rattle.meaning.specs.Bytes.{modes, mode_one}
+use Rattle.meaning.specs.Bytes.{modes}
 use Rattle.terminal.specs.Does.{state_of}
 use Rattle.terminal.proofs.screen.Screen.set_modes.Goals as goal
 
