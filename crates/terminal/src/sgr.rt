@@ -1,5 +1,5 @@
 // Select graphic rendition (SGR).
-ghost use Rattle.std.specs.Prelude.{◌≡◌, ◌<◌};
+ghost use Rattle.std.specs.Prelude.{◌≡◌};
 ghost use Rattle.meaning.specs.Screen.{styled_one, styled};
 ghost use Rattle.terminal.specs.Sgr.{marks_then, colour_then};
 ghost use Rattle.grid.specs.Cells.{style_of};
@@ -24,15 +24,13 @@ fn marks_after(marks: u16, n: u64) -> u16
 
 // A colour after one number, where its own numbers begin at 30 or 40.
 fn colour_after(first: u64, colour: u8, n: u64) -> u8
-    requires { first < 100 }
     ensures { result ≡ colour_then first colour n }
 {
-    if n >= first && n <= first + 7 {
-        (n - first) as u8
-    } else if n == first + 9 || n == 0 {
-        9
-    } else {
-        colour
+    match n.checked_sub(first) {
+        Some(k @ 0..=7) => k as u8,
+        Some(9) => 9,
+        _ if n == 0 => 9,
+        _ => colour,
     }
 }
 
