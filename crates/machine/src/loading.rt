@@ -26,7 +26,7 @@ fn load_pen(head: &[u64; 16]) -> Pen
     }
 }
 
-// The pane, if there is one; refused where its header is.
+// The pane, if there is one; refused where its header is. What is in memory are numbers, `has` among them.
 fn load_pane(has: u64, id: u64, header: &[u64]) -> Option<Option<Held>>
     requires { id < 2 ^ 47 }
     ensures { PaneLoads has id header.now result }

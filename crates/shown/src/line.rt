@@ -3,7 +3,7 @@ ghost use Rattle.std.specs.Prelude.{◌≡◌, ◌≢◌, ℕ, ◌+◌, ◌*◌,
 ghost use Rattle.grid.specs.Cells.{unpacked, rows_of};
 ghost use Rattle.output.specs.Added.{Adds};
 ghost use Rattle.terminal.specs.Terms.{term_on};
-ghost use Rattle.shown.specs.Text.{shown_sign, row_line, rows_text, cursor_line, screen_text};
+ghost use Rattle.shown.specs.Text.{shown_sign, row_line, rows_text, cursor_line};
 
 use grid::cell::Glyph;
 use grid::size::Size;
@@ -50,7 +50,7 @@ fn write_row(buffer: &mut Buffer, row: &[u64])
 }
 
 // All rows of a screen, each on a line.
-fn write_rows(buffer: &mut Buffer, size: Size, cells: &[u64])
+pub(crate) fn write_rows(buffer: &mut Buffer, size: Size, cells: &[u64])
     requires cells { length cells.now ≡ size.high * size.wide }
     requires room { buffer.old.len + 12060 ≤ length buffer.old.bytes.now }
     ensures added { Adds buffer.old buffer.new (rows_text (rows_of size.wide size.high cells.now)) }
@@ -71,7 +71,7 @@ fn write_text(buffer: &mut Buffer, text: &[u8])
 }
 
 // Where the cursor is, row and column from 1.
-fn write_cursor(buffer: &mut Buffer, term: &Terminal)
+pub(crate) fn write_cursor(buffer: &mut Buffer, term: &Terminal)
     requires { buffer.old.len + 16 ≤ length buffer.old.bytes.now }
     ensures added { (xs a : List ℕ) → Adds buffer.old buffer.new (cursor_line (term_on term.now xs a)) }
     ensures most { buffer.new.len ≤ buffer.old.len + 16 }
@@ -85,14 +85,4 @@ fn write_cursor(buffer: &mut Buffer, term: &Terminal)
     buffer.push(b' ');
     buffer.number(term.cursor.col + 1);
     buffer.push(b'\n');
-}
-
-pub(crate) fn write_all(buffer: &mut Buffer, term: &Terminal, cells: &[u64])
-    requires cells { length cells.now ≡ term.now.size.high * term.now.size.wide }
-    requires room { buffer.old.len + 12076 ≤ length buffer.old.bytes.now }
-    ensures added { (a : List ℕ) → Adds buffer.old buffer.new (screen_text (term_on term.now cells.now a)) }
-    ensures most { buffer.new.len ≤ buffer.old.len + 12076 }
-{
-    write_rows(buffer, term.size, cells);
-    write_cursor(buffer, term);
 }

@@ -3,7 +3,7 @@ ghost use Rattle.std.specs.Prelude.{◌≡◌, Some};
 ghost use Rattle.shown.specs.declared.screen.Unwritten.TheVariants.{NoMemory};
 ghost use Rattle.shown.specs.Told.{Told, unwritten_says};
 
-use crate::line::write_all;
+use crate::line::{write_cursor, write_rows};
 use output::Buffer;
 use std::alloc::AllocError;
 use std::error::Error;
@@ -49,7 +49,8 @@ pub fn write_screen(out: &mut Vec<u8>, term: &Terminal, cells: &[u64]) -> Result
         bytes: &mut text,
         len: 0,
     };
-    write_all(&mut buffer, term, cells);
+    write_rows(&mut buffer, term.size, cells);
+    write_cursor(&mut buffer, term);
     let len = buffer.len;
     out.extend_from_slice(&text[..len])?;
     Ok(())

@@ -35,6 +35,7 @@ fn number_of(r: Rendition) -> u64
     100 * u64::from(r.marks) + 10 * u64::from(r.fore) + u64::from(r.back)
 }
 
+// A line for numbers of either width (sgr.rt has the other): one function over Into<u64> would have to speak of that conversion in its contract.
 fn changed(start: Rendition, numbers: &[u64]) -> Rendition
     ensures { style_of result ≡ styled (style_of start) numbers.now }
 {
