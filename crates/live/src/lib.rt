@@ -48,6 +48,7 @@ pub fn go_on(memory: &mut [u64], out: &mut [u8]) -> Told
 
 // One step, told in numbers: what comes is a kind (0 a key, 1 bytes from a program, 2 a program's end, 3 a viewer's size, 4 go on), a number or two, and
 // bytes. What doesn't fit is answered by No(0) and changes nothing; what is not proper is answered by Wait and changes nothing.
+#[tactic(auto, using(engine::proofs::Whole::whole_detaching))]
 pub fn step(memory: &mut [u64], kind: u64, a: u64, b: u64, bytes: &[u8], out: &mut [u8]) -> Told
     ensures says { StepSays detaching_machine memory.old kind a b bytes.now out.old (step_fits detaching_machine memory.old kind out.old) result memory.new out.new }
     ensures whole { Whole detaching detaching_machine }

@@ -1,7 +1,6 @@
 use Rattle.std.proofs.Common.{ℕ, ap, ◌∙◌, arith}
 use Rattle.meaning.specs.Panes.{key}
 use Rattle.meaning.specs.Promise.{comes}
-use Rattle.engine.proofs.Whole.{whole_detaching}
 use Rattle.live.proofs.Telling.{odd_key, told_key, told_from, told_gone, told_attach, told_next}
 use Rattle.live.proofs.Stepping.{rests_odd, first_long, steps, other_size, short_row, other_kind}
 use Rattle.live.proofs.step.Goals as goal
@@ -34,30 +33,3 @@ returns-in-4-clause-says c = steps _ _ _ _ _ _ _ _ _ _ _ _ c.in-Some.ensures.cas
 
 pub returns-in_default-kind-clause-says : goal.returns-in_default-kind-clause-says
 returns-in_default-kind-clause-says c = other_kind _ _ _ _ _ _ _ _ c.in-Some.ensures.cases c.in-Some-first_chunk_mut.ensures.cases (omega arith)
-
-pub returns-in_default-clause-whole : goal.returns-in_default-clause-whole
-returns-in_default-clause-whole c = whole_detaching
-
-pub returns-in_default-first_chunk_mut-clause-whole : goal.returns-in_default-first_chunk_mut-clause-whole
-returns-in_default-first_chunk_mut-clause-whole c = whole_detaching
-
-pub returns-in-Ok-clause-whole : goal.returns-in-Ok-clause-whole
-returns-in-Ok-clause-whole c = whole_detaching
-
-pub returns-in-Err-clause-whole : goal.returns-in-Err-clause-whole
-returns-in-Err-clause-whole c = whole_detaching
-
-pub returns-in-1-clause-whole : goal.returns-in-1-clause-whole
-returns-in-1-clause-whole c = whole_detaching
-
-pub returns-in-2-clause-whole : goal.returns-in-2-clause-whole
-returns-in-2-clause-whole c = whole_detaching
-
-pub returns-in-3-clause-whole : goal.returns-in-3-clause-whole
-returns-in-3-clause-whole c = whole_detaching
-
-pub returns-in-4-clause-whole : goal.returns-in-4-clause-whole
-returns-in-4-clause-whole c = whole_detaching
-
-pub returns-in_default-kind-clause-whole : goal.returns-in_default-kind-clause-whole
-returns-in_default-kind-clause-whole c = whole_detaching
