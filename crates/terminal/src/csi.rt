@@ -38,16 +38,12 @@ impl Screen<'_, '_, '_> {
             b'F' => self.previous_line(k),
             b'G' => self.cursor_column(k - 1),
             b'H' | b'f' => self.cursor_position(k - 1, count_at(ps, 1) - 1),
-            b'J' => {
-                if let Some(part) = Extent::of(value_at(ps, 0)) {
-                    self.erase_in_display(part);
-                }
-            }
-            b'K' => {
-                if let Some(part) = Extent::of(value_at(ps, 0)) {
-                    self.erase_in_line(part);
-                }
-            }
+            b'J' => if let Some(part) = Extent::of(value_at(ps, 0)) {
+                self.erase_in_display(part);
+            },
+            b'K' => if let Some(part) = Extent::of(value_at(ps, 0)) {
+                self.erase_in_line(part);
+            },
             b'L' => self.insert_lines(k),
             b'M' => self.delete_lines(k),
             b'P' => self.delete_characters(k),
