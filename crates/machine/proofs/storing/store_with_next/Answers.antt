@@ -27,9 +27,9 @@ returns c =
     let headed : Headed m c.match-x.memory c.args.x.pane =
     elim c.match-x.branch [
       | in-Some-pane u ↦
-      let h = u.store.new.header in
-      header_placed m c.match-x.memory h c.args.x.pane u.in-Some-pane.p lm (u.store.auto.header ∙ long) u.in-Some-pane.is (u.store.ensures.done (u.store.ensures.told ∙ eq-eqb _ 64 long))
-      (u.memory-is ∙ ap (λ (y : List ℕ). put_mid 256 64 y h) w.same)
+          let h = u.store.new.header in
+          header_placed m c.match-x.memory h c.args.x.pane u.in-Some-pane.p lm (u.store.auto.header ∙ long) u.in-Some-pane.is (u.store.ensures.done (u.store.ensures.told ∙ eq-eqb _ 64 long))
+          (u.memory-is ∙ ap (λ (y : List ℕ). put_mid 256 64 y h) w.same)
       | in_default-pane u ↦ no_header m c.match-x.memory c.args.x.pane lm u.in_default-pane.is (u.memory-is ∙ w.same)
     ] in
     let n = headed.long in
