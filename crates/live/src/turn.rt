@@ -23,7 +23,7 @@ use render::pen::Pen;
 use turns::ends::take_end;
 
 // The machine to which nothing has come yet.
-fn at_first() -> Machine
+fn untouched() -> Machine
     ensures { AtFirst result }
 {
     Machine {
@@ -40,7 +40,7 @@ fn at_first() -> Machine
 pub(crate) fn settle_in(memory: &mut [u64; MEMORY]) -> Told
     ensures { (ys : List ℕ) → Does (out_of at_first (fresh_view 1 1) wait) memory.old memory.new result ys ys }
 {
-    let x = at_first();
+    let x = untouched();
     clear_view(memory, x.size);
     store(memory, x);
     Told::Wait
@@ -91,7 +91,7 @@ pub(crate) fn take(
         Some(Loaded::Is(x)) => take_turn(memory, x, coming, bytes, out),
         Some(Loaded::First) => match coming {
             Coming::Look(columns, rows) => {
-                attach_first(memory, at_first(), size_of(columns, rows))
+                attach_first(memory, untouched(), size_of(columns, rows))
             }
             _ => settle_in(memory),
         },

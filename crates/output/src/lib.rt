@@ -35,14 +35,14 @@ impl Buffer<'_> {
             return;
         }
         if k < 10 {
-            self.push(48 + k as u8);
+            self.push(b'0' + k as u8);
         } else if k < 100 {
-            self.push(48 + (k / 10) as u8);
-            self.push(48 + (k % 10) as u8);
+            self.push(b'0' + (k / 10) as u8);
+            self.push(b'0' + (k % 10) as u8);
         } else {
-            self.push(48 + (k / 100) as u8);
-            self.push(48 + (k / 10 % 10) as u8);
-            self.push(48 + (k % 10) as u8);
+            self.push(b'0' + (k / 100) as u8);
+            self.push(b'0' + (k / 10 % 10) as u8);
+            self.push(b'0' + (k % 10) as u8);
         }
     }
 }

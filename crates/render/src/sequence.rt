@@ -12,8 +12,8 @@ fn introduce(out: &mut Buffer<'_>)
     requires { out.old.len + 2 ≤ length out.old.bytes.now }
     ensures { Adds out.old out.new (27 ∷ 91 ∷ []) }
 {
-    out.push(27);
-    out.push(91);
+    out.push(b'\x1b');
+    out.push(b'[');
 }
 
 // The cursor addressed (CUP).
@@ -25,9 +25,9 @@ pub(crate) fn address(out: &mut Buffer<'_>, place: Place)
 {
     introduce(out);
     out.number(place.row + 1);
-    out.push(59);
+    out.push(b';');
     out.number(place.col + 1);
-    out.push(72);
+    out.push(b'H');
 }
 
 // One more parameter, with the semicolon before it.
@@ -37,7 +37,7 @@ fn add_parameter(out: &mut Buffer<'_>, k: usize)
     ensures added { Adds out.old out.new (parameter k) }
     ensures most { out.new.len ≤ out.old.len + 4 }
 {
-    out.push(59);
+    out.push(b';');
     out.number(k);
 }
 
@@ -49,8 +49,8 @@ fn add_if(out: &mut Buffer<'_>, bit: u16, k: u8)
     ensures most { out.new.len ≤ out.old.len + 2 }
 {
     if bit != 0 {
-        out.push(59);
-        out.push(48 + k);
+        out.push(b';');
+        out.push(b'0' + k);
     }
 }
 
@@ -61,13 +61,13 @@ pub(crate) fn select(out: &mut Buffer<'_>, r: Rendition)
     ensures most { out.new.len ≤ out.old.len + 18 }
 {
     introduce(out);
-    out.push(48);
+    out.push(b'0');
     add_if(out, r.marks % 2, 1);
     add_if(out, r.marks / 2 % 2, 4);
     add_if(out, r.marks / 4 % 2, 7);
     add_parameter(out, 30 + r.fore as usize);
     add_parameter(out, 40 + r.back as usize);
-    out.push(109);
+    out.push(b'm');
 }
 
 // The cursor shown or hidden (DECTCEM).
@@ -77,8 +77,8 @@ pub(crate) fn show_cursor(out: &mut Buffer<'_>, visible: bool)
     ensures most { out.new.len ≡ out.old.len + 6 }
 {
     introduce(out);
-    out.push(63);
-    out.push(50);
-    out.push(53);
+    out.push(b'?');
+    out.push(b'2');
+    out.push(b'5');
     out.push(if visible { b'h' } else { b'l' });
 }

@@ -38,7 +38,6 @@ impl Screen<'_, '_, '_> {
     }
 
     // A byte from 32 on but DEL.
-    #[tactic(auto, using(std::proofs::lemmas::Bool::Decides::nat_tests))]
     fn read(&mut self, b: u8)
         requires { HasRoom 10 self.old }
         ensures { Says 10 self.old self.new (λ t. byte_read t t.reading b) }

@@ -5,6 +5,7 @@ ghost use Rattle.terminal.specs.Does.{Does};
 use crate::screen::Screen;
 
 impl Screen<'_, '_, '_> {
+    // A mode is named by its number here alone.
     fn set_mode(&mut self, on: bool, private: bool, n: u16)
         ensures { Does self.old self.new (λ t. mode_one on private t n) }
     {

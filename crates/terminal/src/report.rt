@@ -37,7 +37,7 @@ impl Terminal {
         answer.push(b'n');
     }
 
-    // DSR
+    // DSR. Its parameter is read where it is answered, as a final byte is; an enum between would be read once more.
     pub(crate) fn device_status(&self, question: usize, answer: &mut Buffer)
         requires { answer.old.len + 10 ≤ length answer.old.bytes.now }
         ensures term { (xs : List ℕ) → term_on self.now xs (said answer.new) ≡ answers (term_on self.now xs (said answer.old)) question }

@@ -5,5 +5,5 @@ use Rattle.live.proofs.turn.settle_in.Goals as goal
 
 pub returns : goal.returns
 returns c = λ ys.
-    settles_in c.at_first-x.result c.args.memory.now c.clear_view.new.memory c.store.new.memory ys c.told-memory c.at_first-x.ensures c.clear_view.ensures
-    (stored_done c.at_first-x.result c.clear_view.new.memory _ _ c.store.ensures (omega arith))
+    settles_in c.untouched-x.result c.args.memory.now c.clear_view.new.memory c.store.new.memory ys c.told-memory c.untouched-x.ensures c.clear_view.ensures
+    (stored_done c.untouched-x.result c.clear_view.new.memory _ _ c.store.ensures (omega arith))

@@ -12,8 +12,8 @@ pub returns-in-Look-clause-does : goal.returns-in-Look-clause-does
 returns-in-Look-clause-does c =
     let h = rw c.in-Some-First.field-0-is at c.in-Some-First.ensures in
     let s = c.size_of.ensures in
-    goes_first c.at_first.result c.args.memory.now _ _ (event_of c.args.coming c.args.bytes.now) c.size_of.result.wide c.size_of.result.high _ h.0 h.1 (sym c.if-not-is_proper.ensures)
-    (ap (λ (k : Coming). event_of k c.args.bytes.now) c.in-Look.is ∙ sym (λ i. attach (s.0 i) (s.1 i))) c.at_first.ensures (c.attach_first.ensures _)
+    goes_first c.untouched.result c.args.memory.now _ _ (event_of c.args.coming c.args.bytes.now) c.size_of.result.wide c.size_of.result.high _ h.0 h.1 (sym c.if-not-is_proper.ensures)
+    (ap (λ (k : Coming). event_of k c.args.bytes.now) c.in-Look.is ∙ sym (λ i. attach (s.0 i) (s.1 i))) c.untouched.ensures (c.attach_first.ensures _)
 
 pub returns-in_default : goal.returns-in_default
 returns-in_default c =
