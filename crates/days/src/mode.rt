@@ -9,6 +9,6 @@ pub(crate) enum Mode {
     Hex,
     // After the first of two digits, with its value.
     Digit(u8),
-    // What was read is no text, whatever follows.
+    // What was read is no text, whatever follows; a state, as the definition goes on through all bytes.
     Bad,
 }

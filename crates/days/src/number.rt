@@ -9,6 +9,7 @@ pub(crate) fn read_number(digits: &[u8]) -> Option<u64>
     if digits.is_empty() || digits.len() > 10 {
         return None;
     }
+    // By `for`, whose early return is the definition's; try_fold would need its step as a function with a contract of its own.
     let mut n = 0;
     for c in digits {
         if !c.is_ascii_digit() {

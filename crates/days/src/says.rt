@@ -1,4 +1,4 @@
-// What is said of a bad line.
+// What is said of a bad line; `Display` says it too.
 ghost use Rattle.std.specs.Prelude.{◌≡◌};
 ghost use Rattle.days.specs.Messages.{message_of};
 

@@ -25,7 +25,7 @@ pub struct Glyph {
 }
 
 // A blank in the default rendition.
-pub const BLANK: u64 = 651051621131747360;
+pub const BLANK: u64 = 0x0909_0000_0000_0020;
 
 impl From<Glyph> for u64 {
     ghost from_gives = { λ g n. (n ≡ packed (cell_of g)) × (unpacked n ≡ cell_of g) };

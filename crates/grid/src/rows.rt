@@ -23,7 +23,7 @@ pub fn scroll_up(cells: &mut [u64], size: Size, top: usize, bottom: usize, count
     true
 }
 
-// They go down by count, and blank rows come in above.
+// They go down by count, and blank rows come in above. Up and down differ in the move itself, so each is a function, as in shift.rt.
 pub fn scroll_down(cells: &mut [u64], size: Size, top: usize, bottom: usize, count: usize) -> bool
     ensures { Edited size.wide size.high cells.old cells.new
         (on_screen size.wide size.high cells.old && (nat_le top bottom && nat_lt bottom size.high)) result

@@ -70,6 +70,7 @@ fn load_kept(header: &[u64; 64]) -> Kept
     }
 }
 
+// Set by number, since of an array gone through by iter_mut in a zip nothing is known afterwards.
 fn load_parameters(header: &[u64; 64]) -> Option<[u16; 16]>
     ensures { let numbers = parameters_at header.now in MatchOption result (parameters_fit numbers ≡ false) (λ l. (parameters_fit numbers ≡ true) × (l ≡ numbers)) }
 {

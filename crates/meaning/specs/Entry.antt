@@ -1,4 +1,4 @@
--- What the two entries answer: the one that changes a style, and one step of the machine, told to the world outside in numbers.
+-- What the two entries answer: the one that changes a style, and one step of the machine, which is told in numbers and tells the world outside in numbers.
 use Rattle.std.specs.Prelude.{◌≡◌, ℕ, ◌+◌, ◌*◌, ◌/◌, ◌%◌, Bool, true, false, ◌&&◌, List, ◌++◌, length, drop, ◌==◌, nat_le, nat_lt, Ok, Err, Result}
 use Rattle.meaning.specs.Words.{pick, or}
 use Rattle.meaning.specs.Screen.{Style, styled}

@@ -1,4 +1,4 @@
-// What the entries answer. Cases with several values have them in one number, as the comments say.
+// What the entries answer. Cases with several values have them in one number, as the comments say: so C is given them, and so the formal statement reads.
 
 // Why a style is not changed.
 #[derive(Clone, Copy, PartialEq, Eq)]
@@ -28,6 +28,6 @@ pub enum Told {
     Over,
     // Nothing to do until something comes.
     Wait,
-    // What was asked does not fit: nothing was done.
+    // What was asked does not fit: nothing was done. An answer like the others, with its number, since acts are logged and printed.
     No(u64),
 }

@@ -24,7 +24,19 @@ impl Buffer<'_> {
         }
     }
 
-    // A number below 1,000 in decimal, where there is room for three digits.
+    // Several bytes, where there is room for all of them.
+    pub fn text(&mut self, bytes: &[u8])
+        ensures added { self.old.len + length bytes.now ≤ length self.old.bytes.now → Adds self.old self.new bytes.now }
+        ensures full { length self.old.bytes.now < self.old.len + length bytes.now → Unchanged self.old self.new }
+    {
+        if self.len <= self.bytes.len() && bytes.len() <= self.bytes.len() - self.len {
+            let end = self.len + bytes.len();
+            self.bytes[self.len..end].copy_from_slice(bytes);
+            self.len = end;
+        }
+    }
+
+    // A number below 1,000 in decimal, where there is room for three digits. The library writes decimals into a row of its own, which would be copied from.
     pub fn number(&mut self, k: usize)
         ensures added { self.old.len + 3 ≤ length self.old.bytes.now → k < 1000 → Adds self.old self.new (in_digits k) }
         ensures most { self.new.len ≤ self.old.len + 3 }

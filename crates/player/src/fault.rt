@@ -1,4 +1,4 @@
-// What can go wrong while a day is played.
+// What can go wrong while a day is played. What serving says of its faults is said here in the player's words.
 ghost use Rattle.std.specs.Prelude.{◌≡◌, Some};
 ghost use Rattle.player.specs.Faults.{fault_from, fault_says};
 ghost use Rattle.player.specs.declared.fault.Fault.TheVariants.{Memory};

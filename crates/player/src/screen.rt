@@ -24,7 +24,7 @@ impl Screen {
         Ok(Screen { term, cells })
     }
 
-    // Bytes of any number; nothing, and false, where the cells are not the terminal's.
+    // Bytes of any number; nothing, and false, where the cells are not the terminal's, as feed_all answers.
     pub fn write(&mut self, bytes: &[u8]) -> bool
         ensures { Wrote self.old bytes.now result self.new }
     {

@@ -7,7 +7,8 @@ use crate::pen::Pen;
 use grid::size::{Place, Size};
 use output::Buffer;
 
-// One go: as many of the differing cells as the row has room for, 32 bytes kept for each. The answer is the number of bytes to send.
+// One go: as many of the differing cells as the row has room for, 32 bytes kept for each. The answer is the number of bytes to send; where sizes
+// don't fit there are none, as its definition has it.
 pub fn draw(screen: &mut [u64], picture: &[u64], size: Size, pen: &mut Pen, out: &mut [u8]) -> usize
     ensures { Drew (drawn size.wide size.high picture.now (length out.old) screen.old pen.old)
         screen.new pen.new result out.old out.new }

@@ -7,15 +7,6 @@ use grid::cell::Rendition;
 use grid::size::Place;
 use output::Buffer;
 
-// The control sequence introducer (CSI): ESC [.
-fn introduce(out: &mut Buffer<'_>)
-    requires { out.old.len + 2 ≤ length out.old.bytes.now }
-    ensures { Adds out.old out.new (27 ∷ 91 ∷ []) }
-{
-    out.push(b'\x1b');
-    out.push(b'[');
-}
-
 // The cursor addressed (CUP).
 pub(crate) fn address(out: &mut Buffer<'_>, place: Place)
     requires small { (place.row < 60) × (place.col < 200) }
@@ -23,7 +14,7 @@ pub(crate) fn address(out: &mut Buffer<'_>, place: Place)
     ensures added { Adds out.old out.new (cursor_position place.row place.col) }
     ensures most { out.new.len ≤ out.old.len + 10 }
 {
-    introduce(out);
+    out.text(b"\x1b[");
     out.number(place.row + 1);
     out.push(b';');
     out.number(place.col + 1);
@@ -60,8 +51,7 @@ pub(crate) fn select(out: &mut Buffer<'_>, r: Rendition)
     ensures added { Adds out.old out.new (graphic_rendition r.marks r.fore r.back) }
     ensures most { out.new.len ≤ out.old.len + 18 }
 {
-    introduce(out);
-    out.push(b'0');
+    out.text(b"\x1b[0");
     add_if(out, r.marks % 2, 1);
     add_if(out, r.marks / 2 % 2, 4);
     add_if(out, r.marks / 4 % 2, 7);
@@ -76,9 +66,5 @@ pub(crate) fn show_cursor(out: &mut Buffer<'_>, visible: bool)
     ensures added { Adds out.old out.new (cursor_visible visible) }
     ensures most { out.new.len ≡ out.old.len + 6 }
 {
-    introduce(out);
-    out.push(b'?');
-    out.push(b'2');
-    out.push(b'5');
-    out.push(if visible { b'h' } else { b'l' });
+    out.text(if visible { b"\x1b[?25h" } else { b"\x1b[?25l" });
 }

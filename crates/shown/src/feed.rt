@@ -16,7 +16,7 @@ fn feed_parts(term: &mut Terminal, cells: &mut [u64], bytes: &[u8], answer: &mut
     }
 }
 
-// Whether the cells are the screen's: if not, nothing is fed.
+// Whether the cells are the screen's: if not, nothing is fed. A bool, since C is answered one (terminal_c).
 pub fn feed_all(term: &mut Terminal, cells: &mut [u64], bytes: &[u8]) -> bool
     ensures { Driven term.old cells.old bytes.now result term.new cells.new }
 {

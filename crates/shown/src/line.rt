@@ -61,15 +61,6 @@ pub(crate) fn write_rows(buffer: &mut Buffer, size: Size, cells: &[u64])
     }
 }
 
-fn write_text(buffer: &mut Buffer, text: &[u8])
-    requires { buffer.old.len + length text.now ≤ length buffer.old.bytes.now }
-    ensures { Adds buffer.old buffer.new text.now }
-{
-    let end = buffer.len + text.len();
-    buffer.bytes[buffer.len..end].copy_from_slice(text);
-    buffer.len = end;
-}
-
 // Where the cursor is, row and column from 1.
 pub(crate) fn write_cursor(buffer: &mut Buffer, term: &Terminal)
     requires { buffer.old.len + 16 ≤ length buffer.old.bytes.now }
@@ -77,10 +68,10 @@ pub(crate) fn write_cursor(buffer: &mut Buffer, term: &Terminal)
     ensures most { buffer.new.len ≤ buffer.old.len + 16 }
 {
     if !term.modes.visible {
-        write_text(buffer, b"cursor hidden\n");
+        buffer.text(b"cursor hidden\n");
         return;
     }
-    write_text(buffer, b"cursor ");
+    buffer.text(b"cursor ");
     buffer.number(term.cursor.row + 1);
     buffer.push(b' ');
     buffer.number(term.cursor.col + 1);

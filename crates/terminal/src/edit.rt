@@ -1,4 +1,4 @@
-// Control functions that change cells within rows: printing, inserting, deleting, erasing. The answers stay, whatever they are.
+// Control functions that change cells within rows: inserting, deleting, erasing. The answers stay, whatever they are.
 ghost use Rattle.std.specs.Prelude.{◌≡◌, ◌+◌, ◌<◌, MatchOption};
 ghost use Rattle.meaning.specs.Screen.{change_row, opened, closed, wiped, wipe_row, wipe_all};
 ghost use Rattle.terminal.specs.Extents.{number_of};

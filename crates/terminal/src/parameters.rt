@@ -10,7 +10,7 @@ use crate::state::Parameters;
 pub(crate) fn value_at(ps: &[u16], k: usize) -> usize
     ensures { (result ≡ slice_index ps.now k) × (result < 65536) }
 {
-    if k < ps.len() { ps[k] as usize } else { 0 }
+    ps.get(k).map_or(0, |p| usize::from(*p))
 }
 
 // The kth parameter, but at least 1.

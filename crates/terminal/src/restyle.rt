@@ -15,6 +15,7 @@ fn is_colour(k: u64) -> bool
     k < 8 || k == 9
 }
 
+// The style's number in the formal statement, which is not the one that a cell has (From).
 fn as_rendition(style: u64) -> Result<Rendition, Refusal>
     ensures { MatchResult result (λ r. (a_style style ≡ true) × (style_of r ≡ as_style style)) (λ e. (a_style style ≡ false) × (e ≡ NoStyle)) }
 {

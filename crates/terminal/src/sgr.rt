@@ -6,7 +6,7 @@ ghost use Rattle.grid.specs.Cells.{style_of};
 
 use grid::cell::Rendition;
 
-// The marks after one number: 1, 4 and 7 set bold, underlined and reverse video, 22, 24 and 27 take them out.
+// The marks after one number: 1, 4 and 7 set bold, underlined and reverse video, 22, 24 and 27 take them out. Marks are a number, as they lie in a cell.
 fn marks_after(marks: u16, n: u64) -> u16
     ensures { result ≡ marks_then marks n }
 {

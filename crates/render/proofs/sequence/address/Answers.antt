@@ -6,7 +6,7 @@ use Rattle.render.proofs.sequence.address.Goals as goal
 pub returns-clause-added : goal.returns-clause-added
 unfolding cursor_position
 returns-clause-added c =
-    let p = c.introduce.ensures in
+    let p = c.text.ensures.added (omega arith) in
     let j = p.added.far in
     let k = p.long in
     let l = c.number.ensures.most in

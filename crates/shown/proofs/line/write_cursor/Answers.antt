@@ -4,7 +4,7 @@ use Rattle.shown.proofs.line.write_cursor.Goals as goal
 
 pub returns-clause-added : goal.returns-clause-added
 returns-clause-added c xs a =
-    let p = c.write_text-2.ensures in
+    let p = (c.text-2.ensures.added (omega arith)) in
     let room = room_left 9 p (omega arith) in
     let q = c.number.ensures.added (omega arith) (omega arith) in
     let d = c.push.ensures.added (let l = q.long in omega (arith, c.number.ensures.most)) in
