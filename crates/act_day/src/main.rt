@@ -27,14 +27,6 @@ impl Machine {
         })
     }
 
-    // One thing that comes, and what is done until the machine waits; whether it is over then.
-    fn comes(&mut self, coming: Coming, bytes: &[u8]) -> anyhow::Result<bool> {
-        let memory = self.memory.as_mut_slice();
-        let out = self.out.as_mut_slice();
-        let end = serve(&mut self.acts, memory, out, BUDGET, coming, bytes)?;
-        Ok(matches!(end, Ended::Over))
-    }
-
     // The lines of the acts since the last time.
     fn lines(&mut self, text: &mut Vec<u8>) -> anyhow::Result<()> {
         text.clear();
@@ -51,20 +43,12 @@ impl Machine {
 }
 
 impl Follows for Machine {
-    fn look(&mut self, columns: u64, rows: u64) -> anyhow::Result<bool> {
-        self.comes(Coming::Look(columns, rows), &[])
-    }
-
-    fn key(&mut self, code: u8) -> anyhow::Result<bool> {
-        self.comes(Coming::Key(code), &[])
-    }
-
-    fn from(&mut self, pane: u64, bytes: &[u8]) -> anyhow::Result<bool> {
-        self.comes(Coming::From(pane), bytes)
-    }
-
-    fn gone(&mut self, pane: u64) -> anyhow::Result<bool> {
-        self.comes(Coming::Gone(pane), &[])
+    // What is done until the machine waits is put behind the acts.
+    fn comes(&mut self, coming: Coming, bytes: &[u8]) -> anyhow::Result<bool> {
+        let memory = self.memory.as_mut_slice();
+        let out = self.out.as_mut_slice();
+        let end = serve(&mut self.acts, memory, out, BUDGET, coming, bytes)?;
+        Ok(matches!(end, Ended::Over))
     }
 }
 

@@ -39,10 +39,10 @@ pub extern "C" fn glass_step(
 ) -> u64
     ensures { Steps memory.old kind a b bytes.now out.old value.old result memory.new out.new value.new }
 {
-    if value.len() == 0 {
+    let Some(first) = value.first_mut() else {
         return 0;
-    }
+    };
     let (case, n) = numbers(step(memory, kind, a, b, bytes, out));
-    value[0] = n;
+    *first = n;
     case
 }

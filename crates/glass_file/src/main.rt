@@ -6,6 +6,7 @@ use anyhow::bail;
 use days::print_act;
 use following::Follows;
 use glass::{MEMORY, OUT, step};
+use live::Coming;
 use meaning::Told;
 use std::alloc::Global;
 use std::io::Write;
@@ -64,20 +65,14 @@ impl Machine {
 }
 
 impl Follows for Machine {
-    fn look(&mut self, columns: u64, rows: u64) -> anyhow::Result<bool> {
-        self.serve(3, columns, rows, &[])
-    }
-
-    fn key(&mut self, code: u8) -> anyhow::Result<bool> {
-        self.serve(0, u64::from(code), 0, &[])
-    }
-
-    fn from(&mut self, pane: u64, bytes: &[u8]) -> anyhow::Result<bool> {
-        self.serve(1, pane, 0, bytes)
-    }
-
-    fn gone(&mut self, pane: u64) -> anyhow::Result<bool> {
-        self.serve(2, pane, 0, &[])
+    // The interface to C and the formal statement tell `step` a kind and numbers.
+    fn comes(&mut self, coming: Coming, bytes: &[u8]) -> anyhow::Result<bool> {
+        match coming {
+            Coming::Key(code) => self.serve(0, u64::from(code), 0, bytes),
+            Coming::From(pane) => self.serve(1, pane, 0, bytes),
+            Coming::Gone(pane) => self.serve(2, pane, 0, bytes),
+            Coming::Look(columns, rows) => self.serve(3, columns, rows, bytes),
+        }
     }
 }
 

@@ -20,20 +20,8 @@ struct Played<'a> {
 impl Follows for Played<'_> {
     ghost comes = { λ p event over q. Plays detaching_machine event p.player over q.player };
 
-    fn look(&mut self, columns: u64, rows: u64) -> anyhow::Result<bool> {
-        Ok(self.player.comes(Coming::Look(columns, rows), &[])?)
-    }
-
-    fn key(&mut self, code: u8) -> anyhow::Result<bool> {
-        Ok(self.player.comes(Coming::Key(code), &[])?)
-    }
-
-    fn from(&mut self, pane: u64, bytes: &[u8]) -> anyhow::Result<bool> {
-        Ok(self.player.comes(Coming::From(pane), bytes)?)
-    }
-
-    fn gone(&mut self, pane: u64) -> anyhow::Result<bool> {
-        Ok(self.player.comes(Coming::Gone(pane), &[])?)
+    fn comes(&mut self, coming: Coming, bytes: &[u8]) -> anyhow::Result<bool> {
+        Ok(self.player.comes(coming, bytes)?)
     }
 
     fn show(&self) -> anyhow::Result<()> {

@@ -1,9 +1,9 @@
-// What the machine did, in order, and how it ended.
-ghost use Rattle.std.specs.Prelude.{◌≡◌};
-ghost use Rattle.serve.specs.Log.{log_of, no_acts};
+// What the machine did, in order.
+ghost use Rattle.std.specs.Prelude.{◌≡◌, take, OnOk};
+ghost use Rattle.serve.specs.Log.{log_of, no_acts, kept};
 
 use meaning::Told;
-use std::alloc::Global;
+use std::alloc::{AllocError, Global};
 
 #[derive(Drop)]
 pub struct Acts {
@@ -31,5 +31,21 @@ impl Acts {
         self.told.clear();
         self.written.clear();
         self.sent.clear();
+    }
+
+    // One more act, whose bytes are the first of `out`. Where memory fails, the log may have got the act without them.
+    pub(crate) fn note(&mut self, told: Told, out: &[u8]) -> Result<(), AllocError>
+        ensures { OnOk result (log_of self.new ≡ kept (log_of self.old) told out.now) }
+    {
+        self.told.push(told)?;
+        match told {
+            Told::Write(n) => self
+                .written
+                .extend_from_slice(&out[..out.len().min(n as usize)]),
+            Told::Send(n) => self
+                .sent
+                .extend_from_slice(&out[..out.len().min((n % 65536) as usize)]),
+            _ => Ok(()),
+        }
     }
 }

@@ -3,7 +3,6 @@
 
 mod acts;
 mod ended;
-mod note;
 mod thing;
 
 ghost use Rattle.serve.specs.Promised.{AsPromised};

@@ -7,7 +7,6 @@ ghost use Rattle.serve.specs.Serving.{told_it, Serves};
 
 use crate::acts::Acts;
 use crate::ended::{Ended, Fault};
-use crate::note::note;
 use live::{Coming, go_on, tell};
 use meaning::Told;
 
@@ -45,7 +44,7 @@ pub fn serve(
         if let Told::No(_) = told {
             return Err(Fault::Refused);
         }
-        note(acts, told, out)?;
+        acts.note(told, out)?;
         match told {
             Told::Wait => return Ok(if over { Ended::Over } else { Ended::Waits }),
             Told::Over => over = true,

@@ -16,14 +16,14 @@ returns-in-No c = λ _. record { so = refused _ _ _ _ _ _ _ _ _ (omega arith) c.
 pub returns-then-over : goal.returns-then-over
 returns-then-over c = λ _.
     record {
-      so = ap (λ (x : Bool). went c.one_step-told.new.memory (log_of c.note.new.acts) (Ok (pick x Over Waits))) (sym c.if-over.true)
+      so = ap (λ (x : Bool). went c.one_step-told.new.memory (log_of c.note.new.self) (Ok (pick x Over Waits))) (sym c.if-over.true)
           ∙ waited _ _ _ _ _ _ _ _ _ (omega arith) c.loop.invariant _ _ _ c.one_step-told.ensures _ c.in_ok-note.ensures c.in-Wait.is;
     }
 
 pub returns-else-over : goal.returns-else-over
 returns-else-over c = λ _.
     record {
-      so = ap (λ (x : Bool). went c.one_step-told.new.memory (log_of c.note.new.acts) (Ok (pick x Over Waits))) (sym c.if-over.false)
+      so = ap (λ (x : Bool). went c.one_step-told.new.memory (log_of c.note.new.self) (Ok (pick x Over Waits))) (sym c.if-over.false)
           ∙ waited _ _ _ _ _ _ _ _ _ (omega arith) c.loop.invariant _ _ _ c.one_step-told.ensures _ c.in_ok-note.ensures c.in-Wait.is;
     }
 
