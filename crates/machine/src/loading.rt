@@ -6,7 +6,7 @@ ghost use Rattle.engine.specs.Memory.{header_at, pen_from};
 ghost use Rattle.machine.specs.States.{used_fits, Holds, PaneLoads, Loads};
 
 use crate::state::{Held, Loaded, Machine};
-use engine::MEMORY;
+use engine::{HEADER, MEMORY};
 use grid::cell::Rendition;
 use grid::size::Size;
 use render::pen::Pen;
@@ -49,7 +49,7 @@ fn load_used(memory: &[u64; MEMORY]) -> Option<Machine>
     if next >= LIMIT || id >= LIMIT {
         return None;
     }
-    let pane = load_pane(head[6], id, &memory[256..320])?;
+    let pane = load_pane(head[6], id, &memory[HEADER..HEADER + 64])?;
     Some(Machine {
         size,
         attached: head[3] == 1,

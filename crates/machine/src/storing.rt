@@ -6,7 +6,7 @@ ghost use Rattle.engine.specs.Memory.{has_pane, pane_number, head_of, with_heade
 ghost use Rattle.machine.specs.States.{panes_of, glass_of, view_of, with_next, Stored, StoredWithNext};
 
 use crate::state::{Held, Machine};
-use engine::MEMORY;
+use engine::{HEADER, MEMORY};
 
 // Whether there is a pane, and its number.
 fn pane_numbers(pane: Option<Held>) -> (u64, u64)
@@ -52,7 +52,7 @@ pub fn store_with_next(memory: &mut [u64], x: Machine, next: u64) -> bool
         return false;
     };
     if let Some(p) = x.pane {
-        header::store(p.terminal, &mut memory[256..320]);
+        header::store(p.terminal, &mut memory[HEADER..HEADER + 64]);
     }
     memory[0..16].copy_from_slice(&head_numbers(x, next));
     true
