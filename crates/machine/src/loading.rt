@@ -1,7 +1,6 @@
 // A machine's state loaded from its memory; numbers that no machine stores are refused.
-ghost use Rattle.std.specs.Prelude.{◌≡◌, ◌^◌, ◌<◌, true, false, length, MatchOption};
-ghost use Rattle.engine.specs.Areas.{part};
-ghost use Rattle.engine.specs.Memory.{header_at, pen_from};
+ghost use Rattle.std.specs.Prelude.{◌≡◌, false, MatchOption};
+ghost use Rattle.engine.specs.Memory.{pen_from};
 ghost use Rattle.machine.specs.States.{used_fits, Holds, Loads};
 
 use crate::state::{Held, Loaded, Machine};

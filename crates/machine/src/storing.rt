@@ -1,8 +1,7 @@
 // A machine's state stored: its head and its pane's header. The cells stay, since they are the state's already.
-ghost use Rattle.std.specs.Prelude.{◌≡◌, ℕ, ◌≤◌, List, length};
+ghost use Rattle.std.specs.Prelude.{◌≡◌, ℕ, List};
 ghost use Rattle.header.specs.Header.{bit};
-ghost use Rattle.engine.specs.Areas.{part};
-ghost use Rattle.engine.specs.Memory.{has_pane, pane_number, head_of, with_header};
+ghost use Rattle.engine.specs.Memory.{has_pane, pane_number, head_of};
 ghost use Rattle.machine.specs.States.{panes_of, glass_of, view_of, with_next, Stored, StoredWithNext};
 
 use crate::state::{Held, Machine};
