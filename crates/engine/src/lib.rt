@@ -11,6 +11,14 @@ ghost use Rattle.engine.specs.Detaching.{detaching_machine};
 // How many numbers the memory has.
 pub const MEMORY: usize = 238304;
 
+// Where the pane's header of 64 numbers begins in the memory, where the viewer's screen does, and where the pane's cells do.
+pub const HEADER: usize = 256;
+pub const SCREEN: usize = 2304;
+pub const CELLS: usize = 38304;
+
+// How many cells a screen has at most.
+pub const MOST_CELLS: usize = 12000;
+
 // How many bytes the lent row has at least: the longest that is ever said.
 pub const OUT: usize = 65536;
 

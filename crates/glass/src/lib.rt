@@ -16,7 +16,7 @@ fn fits(memory: &[u64], kind: u64, out: &[u8]) -> bool
 }
 
 // One step: what comes is a kind (0 a key, 1 bytes from a program, 2 a program's end, 3 a viewer's size, 4 go on), a number or two, and bytes. What
-// doesn't fit is answered by No(0) and changes nothing.
+// doesn't fit is answered by No(0) and changes nothing. It is a kind and numbers, not an enum, because C calls it and the formal statement has it so.
 pub fn step(memory: &mut [u64], kind: u64, a: u64, b: u64, bytes: &[u8], out: &mut [u8]) -> Told
     ensures says { StepSays own memory.old kind a b bytes.now out.old (step_fits own memory.old kind out.old) result memory.new out.new }
 {

@@ -5,7 +5,7 @@ use Rattle.std.proofs.lemmas.Bool.{eq-eqb}
 use Rattle.meaning.specs.Words.{pick, none_of}
 use Rattle.meaning.specs.Screen.{Term, with_answer}
 use Rattle.meaning.specs.Bytes.{written}
-use Rattle.meaning.specs.Panes.{Glass, from, send, turn, turn_of, on_bytes, told}
+use Rattle.meaning.specs.Panes.{Glass, with_panes, from, send, turn, turn_of, on_bytes, told}
 use Rattle.meaning.specs.Promise.{detaching, says}
 use Rattle.meaning.specs.Entry.{ActTold, SaysTold}
 use Rattle.meaning.specs.declared.answer.Told.{Told}
@@ -26,8 +26,17 @@ use Rattle.machine.specs.declared.state.Machine.{Machine}
 use Rattle.live.specs.Answered.{Answered}
 use Rattle.turns.specs.Does.{Does}
 use Rattle.turns.specs.Turned.{then_goes}
-use Rattle.live.specs.Turned.{turned, with_terminal, Retermed}
+use Rattle.live.specs.Turned.{turned}
 use Rattle.turns.proofs.Lent.{few_cells}
+
+-- a glass whose one pane has this number and this terminal
+abbrev pub with_terminal : Glass → ℕ → Term → Glass
+with_terminal g i t = with_panes g (record { id = i; term = t } ∷ [])
+
+-- the machine x with this terminal in its pane, which has the number i
+pub record Retermed (x : Machine) (i : ℕ) (t : Terminal) (y : Machine) : Type 0 where
+  pub glass : (m : List ℕ) → glass_of y m ≡ with_terminal (glass_of x m) i (terminal_in t m)
+  pub view : (m : List ℕ) → view_of y m ≡ view_of x m
 
 -- WHAT THE PLAIN GLASS DOES
 -- the pane's terminal after the bytes, with its answer taken away

@@ -14,10 +14,15 @@ use Rattle.machine.specs.States.{glass_of, view_of}
 use Rattle.machine.specs.declared.state.Machine.{Machine}
 use Rattle.turns.specs.Does.{Does}
 use Rattle.turns.specs.Turned.{then_goes, turned_by}
-use Rattle.live.specs.Turned.{turned, Left}
+use Rattle.live.specs.Turned.{turned}
 
 abbrev pub leaves : Glass → ℕ → Bool
 leaves g c = g.attached && (g.prefix && eqb c 100)
+
+-- the machine x at which nobody looks any more
+pub record Left (x : Machine) (y : Machine) : Type 0 where
+  pub glass : (m : List ℕ) → glass_of y m ≡ left (glass_of x m)
+  pub view : (m : List ℕ) → view_of y m ≡ view_of x m
 
 pub without_viewer : (x : Machine) → Left x (record x { attached = false; prefix = false })
 without_viewer x = record { glass = λ m. refl; view = λ m. refl }

@@ -1,15 +1,12 @@
 -- What the machine does when one thing comes.
-use Rattle.std.specs.Prelude.{◌≡◌, ℕ, false, List, [], ◌∷◌, Some, None}
-use Rattle.meaning.specs.Screen.{Term}
-use Rattle.meaning.specs.Panes.{Glass, Event, with_panes, at_first}
+use Rattle.std.specs.Prelude.{◌≡◌, ℕ, false, List, Some, None}
+use Rattle.meaning.specs.Panes.{Event, at_first}
 use Rattle.meaning.specs.Promise.{detaching}
-use Rattle.windows.specs.Parts.{left}
-use Rattle.terminal.specs.declared.state.Terminal.{Terminal}
 use Rattle.engine.specs.State.{Out}
 use Rattle.grid.specs.declared.size.Size.{Size}
 use Rattle.layout.specs.Window.{one_pane}
 use Rattle.render.specs.Pens.{fresh_pen}
-use Rattle.machine.specs.States.{terminal_in, glass_of, view_of}
+use Rattle.machine.specs.States.{terminal_in, glass_of}
 use Rattle.machine.specs.declared.state.Held.{Held}
 use Rattle.machine.specs.declared.state.Machine.{Machine}
 use Rattle.turns.specs.Turned.{turned_by}
@@ -18,26 +15,12 @@ use Rattle.turns.specs.Turned.{turned_by}
 abbrev pub turned : Machine → List ℕ → Event → Out
 turned = turned_by detaching
 
--- the machine x at which nobody looks any more
-pub record Left (x : Machine) (y : Machine) : Type 0 where
-  pub glass : (m : List ℕ) → glass_of y m ≡ left (glass_of x m)
-  pub view : (m : List ℕ) → view_of y m ≡ view_of x m
-
 -- the machine of a viewer with a fresh screen of this size, who looks at the pane p
 pub record Looked (s : Size) (n : ℕ) (p : Held) (y : Machine) : Type 0 where
   pub size : y.size ≡ s
   pub pane : y.pane ≡ Some p
   pub pen : y.pen ≡ fresh_pen
   pub glass : (m : List ℕ) → glass_of y m ≡ one_pane s.wide s.high p.id (terminal_in p.terminal m) n false
-
--- a glass whose one pane has this number and this terminal
-abbrev pub with_terminal : Glass → ℕ → Term → Glass
-with_terminal g i t = with_panes g (record { id = i; term = t } ∷ [])
-
--- the machine x with this terminal in its pane, which has the number i
-pub record Retermed (x : Machine) (i : ℕ) (t : Terminal) (y : Machine) : Type 0 where
-  pub glass : (m : List ℕ) → glass_of y m ≡ with_terminal (glass_of x m) i (terminal_in t m)
-  pub view : (m : List ℕ) → view_of y m ≡ view_of x m
 
 -- the machine to which nothing has come yet
 pub record AtFirst (y : Machine) : Type 0 where

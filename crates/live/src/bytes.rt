@@ -5,12 +5,15 @@ ghost use Rattle.live.specs.Answered.{Answered};
 ghost use Rattle.turns.specs.Does.{Does};
 ghost use Rattle.live.specs.Turned.{turned};
 
-use engine::{MEMORY, OUT};
+use engine::{CELLS, MEMORY, OUT};
 use machine::state::{Held, Machine};
 use machine::store;
 use meaning::Told;
 use terminal::state::Terminal;
 use turns::show::advance;
+
+// How many bytes are answered at most.
+const MOST_ANSWERED: usize = 40960;
 
 // How long the answer is, at most ten bytes for each byte; the cells and the room lent are always enough.
 fn feed_pane(
@@ -25,7 +28,7 @@ fn feed_pane(
 {
     let n = terminal.size.cells();
     terminal
-        .feed(&mut memory[38304..38304 + n], bytes, &mut out[0..40960])
+        .feed(&mut memory[CELLS..CELLS + n], bytes, &mut out[0..MOST_ANSWERED])
         .unwrap()
 }
 

@@ -3,6 +3,9 @@ ghost use Rattle.std.specs.Prelude.{◌≡◌, nat_lt};
 ghost use Rattle.meaning.specs.Promise.{proper_event};
 ghost use Rattle.live.specs.Coming.{event_of};
 
+// How many bytes come at a time at most.
+const MOST_BYTES: usize = 4096;
+
 #[derive(Clone, Copy)]
 pub enum Coming {
     // A key.
@@ -22,13 +25,13 @@ fn is_key(key: u8) -> bool
     u64::from(key) < 256
 }
 
-// At most 4,096 bytes come at a time; a screen has 1 to 200 columns and 2 to 60 rows, one for the status line.
+// A screen has 1 to 200 columns and 2 to 60 rows, one for the status line.
 pub(crate) fn is_proper(coming: Coming, bytes: &[u8]) -> bool
     ensures { result ≡ proper_event (event_of coming bytes.now) }
 {
     match coming {
         Coming::Key(key) => is_key(key),
-        Coming::From(_) => bytes.len() <= 4096,
+        Coming::From(_) => bytes.len() <= MOST_BYTES,
         Coming::Gone(_) => true,
         Coming::Look(columns, rows) => (1..=200).contains(&columns) && (2..=60).contains(&rows),
     }

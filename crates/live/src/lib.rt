@@ -9,7 +9,6 @@ mod keys;
 mod sizes;
 mod turn;
 
-ghost use Rattle.std.specs.Prelude.{◌≡◌};
 ghost use Rattle.meaning.specs.Entry.{StepSays, step_fits};
 ghost use Rattle.meaning.specs.Promise.{Whole, comes, next, detaching};
 ghost use Rattle.engine.specs.Detaching.{detaching_machine};
@@ -34,7 +33,7 @@ pub fn tell(memory: &mut [u64], coming: Coming, bytes: &[u8], out: &mut [u8]) ->
     Told::No(0)
 }
 
-// One step with nothing new, after one that did not wait; refused likewise.
+// One step with nothing new, after one that did not wait; refused likewise. The refusal is a number told, as `step` has it, since the log of acts has it so.
 pub fn go_on(memory: &mut [u64], out: &mut [u8]) -> Told
     ensures { ToldSays detaching_machine next memory.old out.old (sizes_fit detaching_machine memory.old out.old) result memory.new out.new }
 {
@@ -47,7 +46,8 @@ pub fn go_on(memory: &mut [u64], out: &mut [u8]) -> Told
 }
 
 // One step, told in numbers: what comes is a kind (0 a key, 1 bytes from a program, 2 a program's end, 3 a viewer's size, 4 go on), a number or two, and
-// bytes. What doesn't fit is answered by No(0) and changes nothing; what is not proper is answered by Wait and changes nothing.
+// bytes. What doesn't fit is answered by No(0) and changes nothing; what is not proper is answered by Wait and changes nothing. It is a kind and numbers, not
+// an enum, because C calls it and the formal statement has it so.
 #[tactic(auto, using(engine::proofs::Whole::whole_detaching))]
 pub fn step(memory: &mut [u64], kind: u64, a: u64, b: u64, bytes: &[u8], out: &mut [u8]) -> Told
     ensures says { StepSays detaching_machine memory.old kind a b bytes.now out.old (step_fits detaching_machine memory.old kind out.old) result memory.new out.new }

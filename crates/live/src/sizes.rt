@@ -1,5 +1,5 @@
 // Somebody attaches, or has another size: the viewer's screen is fresh, and the pane is as large as its place.
-ghost use Rattle.std.specs.Prelude.{◌≡◌, ℕ, ◌+◌, ◌-◌, ◌*◌, ◌^◌, ◌<◌, ◌≤◌, false, ◌&&◌, List, length, Some, None, ◌==◌};
+ghost use Rattle.std.specs.Prelude.{◌≡◌, ℕ, ◌+◌, ◌-◌, ◌*◌, ◌^◌, ◌<◌, false, List, Some, None, ◌==◌};
 ghost use Rattle.meaning.specs.Words.{so_many};
 ghost use Rattle.meaning.specs.Panes.{attach, rect, pane_wide, pane_high, as_large};
 ghost use Rattle.grid.specs.Cells.{blank_number};
@@ -9,7 +9,7 @@ ghost use Rattle.turns.specs.Does.{Does};
 ghost use Rattle.live.specs.Turned.{turned, Looked};
 ghost use Rattle.live.specs.Fits.{Fitted};
 
-use engine::{MEMORY, OUT};
+use engine::{CELLS, MEMORY, MOST_CELLS, OUT, SCREEN};
 use grid::cell::BLANK;
 use grid::size::Size;
 use machine::state::{Held, Machine};
@@ -35,18 +35,18 @@ pub(crate) fn clear_view(memory: &mut [u64; MEMORY], size: Size)
     ensures { memory.new ≡ over memory.old 2304 (so_many (size.high * size.wide) blank_number) }
 {
     let n = size.cells();
-    memory[2304..2304 + n].fill(BLANK);
+    memory[SCREEN..SCREEN + n].fill(BLANK);
 }
 
 // The terminal's cells go through a row of their own, since the new ones begin where the old ones do.
 fn fit(memory: &mut [u64; MEMORY], terminal: &mut Terminal, size: Size)
     ensures { Fitted terminal.old memory.old size.wide size.high terminal.new memory.new }
 {
-    let mut row = [0u64; 12000];
+    let mut row = [0u64; MOST_CELLS];
     let k = terminal.size.cells();
     let n = size.cells();
-    row[0..k].copy_from_slice(&memory[38304..38304 + k]);
-    terminal.resize(&row[0..k], size, &mut memory[38304..38304 + n]);
+    row[0..k].copy_from_slice(&memory[CELLS..CELLS + k]);
+    terminal.resize(&row[0..k], size, &mut memory[CELLS..CELLS + n]);
 }
 
 // The machine of whoever has just attached.
@@ -80,7 +80,7 @@ pub(crate) fn attach_first(memory: &mut [u64; MEMORY], x: Machine, size: Size) -
     let id = x.next;
     let place = place_of(size);
     let n = place.cells();
-    let terminal = Terminal::start(place, &mut memory[38304..38304 + n]).unwrap();
+    let terminal = Terminal::start(place, &mut memory[CELLS..CELLS + n]).unwrap();
     clear_view(memory, size);
     let y = looked_at(size, id, Held { id, terminal });
     store_with_next(memory, y, id + 1);

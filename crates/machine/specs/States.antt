@@ -67,10 +67,6 @@ abbrev pub PaneIs : ℕ → ℕ → List ℕ → Option Held → Type 0
 PaneIs has i hd None = yes has ≡ false
 PaneIs has i hd (Some p) = (yes has ≡ true) × (p.id ≡ i) × HeaderLoads hd p.terminal
 
-abbrev pub PaneLoads : ℕ → ℕ → List ℕ → Option (Option Held) → Type 0
-PaneLoads has i hd None = (yes has ≡ true) × (header_fits hd ≡ false)
-PaneLoads has i hd (Some o) = PaneIs has i hd o
-
 -- what was found in a memory
 abbrev pub Loads : List ℕ → Option Loaded → Type 0
 Loads m None = memory_fits m ≡ false

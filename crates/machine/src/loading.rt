@@ -1,12 +1,10 @@
 // A machine's state loaded from its memory; numbers that no machine stores are refused.
-ghost use Rattle.std.specs.Prelude.{◌≡◌, ◌^◌, ◌<◌, true, false, length, MatchOption};
-ghost use Rattle.header.specs.Header.{header_fits};
-ghost use Rattle.engine.specs.Areas.{part};
-ghost use Rattle.engine.specs.Memory.{header_at, pen_from};
-ghost use Rattle.machine.specs.States.{used_fits, Holds, PaneLoads, Loads};
+ghost use Rattle.std.specs.Prelude.{◌≡◌, false, MatchOption};
+ghost use Rattle.engine.specs.Memory.{pen_from};
+ghost use Rattle.machine.specs.States.{used_fits, Holds, Loads};
 
 use crate::state::{Held, Loaded, Machine};
-use engine::MEMORY;
+use engine::{HEADER, MEMORY};
 use grid::cell::Rendition;
 use grid::size::Size;
 use render::pen::Pen;
@@ -26,18 +24,6 @@ fn load_pen(head: &[u64; 16]) -> Pen
     }
 }
 
-// The pane, if there is one; refused where its header is. What is in memory are numbers, `has` among them.
-fn load_pane(has: u64, id: u64, header: &[u64]) -> Option<Option<Held>>
-    requires { id < 2 ^ 47 }
-    ensures { PaneLoads has id header.now result }
-{
-    if has != 1 {
-        return Some(None);
-    }
-    let terminal = header::load(header)?;
-    Some(Some(Held { id, terminal }))
-}
-
 // The state of a machine to which something has come.
 fn load_used(memory: &[u64; MEMORY]) -> Option<Machine>
     ensures { MatchOption result (used_fits memory.now ≡ false) (λ x. Holds memory.now x) }
@@ -49,7 +35,12 @@ fn load_used(memory: &[u64; MEMORY]) -> Option<Machine>
     if next >= LIMIT || id >= LIMIT {
         return None;
     }
-    let pane = load_pane(head[6], id, &memory[256..320])?;
+    let pane = if head[6] == 1 {
+        let terminal = header::load(&memory[HEADER..HEADER + 64])?;
+        Some(Held { id, terminal })
+    } else {
+        None
+    };
     Some(Machine {
         size,
         attached: head[3] == 1,

@@ -1,12 +1,11 @@
 // A machine's state stored: its head and its pane's header. The cells stay, since they are the state's already.
-ghost use Rattle.std.specs.Prelude.{◌≡◌, ℕ, ◌≤◌, List, length};
+ghost use Rattle.std.specs.Prelude.{◌≡◌, ℕ, List};
 ghost use Rattle.header.specs.Header.{bit};
-ghost use Rattle.engine.specs.Areas.{part};
-ghost use Rattle.engine.specs.Memory.{has_pane, pane_number, head_of, with_header};
+ghost use Rattle.engine.specs.Memory.{has_pane, pane_number, head_of};
 ghost use Rattle.machine.specs.States.{panes_of, glass_of, view_of, with_next, Stored, StoredWithNext};
 
 use crate::state::{Held, Machine};
-use engine::MEMORY;
+use engine::{HEADER, MEMORY};
 
 // Whether there is a pane, and its number.
 fn pane_numbers(pane: Option<Held>) -> (u64, u64)
@@ -52,7 +51,7 @@ pub fn store_with_next(memory: &mut [u64], x: Machine, next: u64) -> bool
         return false;
     };
     if let Some(p) = x.pane {
-        header::store(p.terminal, &mut memory[256..320]);
+        header::store(p.terminal, &mut memory[HEADER..HEADER + 64]);
     }
     memory[0..16].copy_from_slice(&head_numbers(x, next));
     true

@@ -11,7 +11,16 @@ use Rattle.machine.specs.States.{glass_of, view_of}
 use Rattle.machine.specs.declared.state.Held.{Held}
 use Rattle.machine.specs.declared.state.Machine.{Machine}
 use Rattle.turns.specs.Does.{Does}
-use Rattle.turns.specs.Turned.{then_goes, turned_by, emptied, Emptied}
+use Rattle.turns.specs.Turned.{then_goes, turned_by}
+
+-- a glass whose last pane has gone
+abbrev pub emptied : Glass → Glass
+emptied g = record { wide = g.wide; high = g.high; attached = g.attached; windows = []; at = 0; panes = []; next = g.next; prefix = g.prefix }
+
+-- the machine x without its pane
+pub record Emptied (x : Machine) (y : Machine) : Type 0 where
+  pub glass : (m : List ℕ) → glass_of y m ≡ emptied (glass_of x m)
+  pub view : (m : List ℕ) → view_of y m ≡ view_of x m
 
 pub without_pane : (x : Machine) → Emptied x (record x { pane = None })
 without_pane x = record { glass = λ m. refl; view = λ m. refl }

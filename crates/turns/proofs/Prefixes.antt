@@ -1,17 +1,21 @@
 -- Keys, case by case.
-use Rattle.std.proofs.Common.{◌≡◌, ℕ, ◌+◌, ◌*◌, ◌<◌, Bool, List, [], ◌∷◌, ◌++◌, length, drop, set, Some, None, Option, sym, refl, ap, ◌∙◌, subst, arith}
-use Rattle.meaning.specs.Panes.{Glass, key, send, turn, turn_of, with_prefix, window_at, current}
+use Rattle.std.proofs.Common.{◌≡◌, ℕ, ◌+◌, ◌*◌, ◌<◌, Bool, List, [], ◌∷◌, ◌++◌, length, drop, set, sym, refl, ap, ◌∙◌, subst, arith}
+use Rattle.meaning.specs.Panes.{Glass, key, send, turn, turn_of, with_prefix, current}
 use Rattle.meaning.specs.Promise.{says}
 use Rattle.meaning.specs.Entry.{ActTold, SaysTold}
 use Rattle.meaning.specs.declared.answer.Told.{Told}
 use Rattle.meaning.specs.declared.answer.Told.TheVariants.{Send}
 use Rattle.engine.specs.State.{View, Out, state, out, going, said_or_going, view_at}
 use Rattle.engine.specs.Memory.{encode}
-use Rattle.machine.specs.States.{glass_of, view_of, windows_of}
-use Rattle.machine.specs.declared.state.Held.{Held}
+use Rattle.machine.specs.States.{glass_of, view_of}
 use Rattle.machine.specs.declared.state.Machine.{Machine}
 use Rattle.turns.specs.Does.{Does}
-use Rattle.turns.specs.Turned.{then_goes, turned_by, Prefixed}
+use Rattle.turns.specs.Turned.{then_goes, turned_by}
+
+-- the machine x with the prefix key come, or not
+pub record Prefixed (x : Machine) (p : Bool) (y : Machine) : Type 0 where
+  pub glass : (m : List ℕ) → glass_of y m ≡ with_prefix (glass_of x m) p
+  pub view : (m : List ℕ) → view_of y m ≡ view_of x m
 
 pub first_set : (ys : List ℕ) (c : ℕ) → 0 < length ys → set ys 0 c ≡ (c ∷ []) ++ drop 1 ys
 first_set [] c h = absurd (omega arith)
@@ -20,14 +24,6 @@ first_set (y ∷ ys) c h = refl
 pub send_told : (i c : ℕ) (ys : List ℕ) → 0 < length ys → SaysTold (send i (c ∷ [])) (Send (65536 * i + 1)) ys (set ys 0 c)
 unfolding SaysTold
 send_told i c ys h = (refl, first_set ys c h)
-
-pub focus_some : (o : Option Held) (p : Held) → o ≡ Some p → p.id ≡ (window_at (windows_of o) 0).focus
-unfolding window_at
-focus_some o p e = rw e
-
-pub focus_none : (o : Option Held) → o ≡ None → ◌≡◌ {A = ℕ} 0 (window_at (windows_of o) 0).focus
-unfolding window_at
-focus_none o e = rw e
 
 pub say_does : (x : Machine) (m m₁ ys ys₁ : List ℕ) (i c : ℕ) (r : Told) → m₁ ≡ encode m (state (glass_of x m) (view_of x m)) → i ≡ (current (glass_of x m)).focus
     → SaysTold (send i (c ∷ [])) r ys ys₁ → Does (out (glass_of x m) (view_of x m) (says (send (current (glass_of x m)).focus (c ∷ [])))) m m₁ r ys ys₁

@@ -1,5 +1,5 @@
 // A program's end: its pane goes, and with the last one everything is over.
-ghost use Rattle.std.specs.Prelude.{◌≡◌, ◌≤◌, length};
+ghost use Rattle.std.specs.Prelude.{◌≡◌, length};
 ghost use Rattle.meaning.specs.Panes.{gone};
 ghost use Rattle.turns.specs.Does.{Does, Turns};
 ghost use Rattle.turns.specs.Turned.{turned};

@@ -1,5 +1,5 @@
 // A key: it goes to the pane with the focus, unless it is the prefix or comes after it.
-ghost use Rattle.std.specs.Prelude.{◌≡◌, ℕ, ◌^◌, ◌<◌, ◌≤◌, Bool, true, List, [], ◌∷◌, length};
+ghost use Rattle.std.specs.Prelude.{◌≡◌, ◌^◌, ◌<◌, true, [], ◌∷◌, length};
 ghost use Rattle.meaning.specs.Panes.{send, key, window_at, current};
 ghost use Rattle.meaning.specs.Promise.{says};
 ghost use Rattle.meaning.specs.Entry.{SaysTold};
@@ -15,14 +15,12 @@ use machine::store;
 use meaning::Told;
 
 // The number of the pane with the focus, 0 where there is none.
+#[tactic(auto, unfolding(meaning::specs::Panes::window_at))]
 fn focus(pane: Option<Held>) -> u64
     ensures is { result ≡ (window_at (windows_of pane) 0).focus }
     ensures small { result < 2 ^ 47 }
 {
-    match pane {
-        Some(p) => p.id,
-        None => 0,
-    }
+    pane.map_or(0, |p| p.id)
 }
 
 fn send_key(out: &mut [u8; OUT], id: u64, c: u8) -> Told

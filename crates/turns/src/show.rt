@@ -1,5 +1,5 @@
 // Going on: cells that differ are sent to the viewer's screen, then the cursor is put right.
-ghost use Rattle.std.specs.Prelude.{◌≡◌, ℕ, ◌*◌, ◌≤◌, Bool, true, List, ◌++◌, length, take, Some};
+ghost use Rattle.std.specs.Prelude.{◌≡◌, ℕ, ◌*◌, Bool, true, List, length, take, Some};
 ghost use Rattle.meaning.specs.Picture.{picture, spot};
 ghost use Rattle.grid.specs.Cells.{cells_of};
 ghost use Rattle.layout.specs.Window.{one_pane};
@@ -12,7 +12,7 @@ ghost use Rattle.meaning.specs.Screen.{Cell};
 ghost use Rattle.terminal.specs.Terms.{term_of};
 ghost use Rattle.turns.specs.Sent.{Closed, Sent, closing_at};
 
-use engine::{MEMORY, OUT};
+use engine::{CELLS, MEMORY, MOST_CELLS, OUT, SCREEN};
 use grid::size::Size;
 use layout::{cursor_of, draw_pane};
 use machine::state::{Held, Machine};
@@ -23,19 +23,22 @@ use render::finish::finish;
 use render::pen::Pen;
 use terminal::state::Terminal;
 
+// How many bytes there is room for in one go.
+const ROOM: usize = 4096;
+
 // The picture of one pane, at the beginning of a row that is as long as the largest.
-fn draw_picture(memory: &[u64; MEMORY], size: Size, pane: &Terminal, row: &mut [u64; 12000])
+fn draw_picture(memory: &[u64; MEMORY], size: Size, pane: &Terminal, row: &mut [u64; MOST_CELLS])
     ensures { (i n : ℕ) (p : Bool) → take (size.high * size.wide) row.new ≡ cells_of (picture (one_pane size.wide size.high i (terminal_in pane.now memory.now) n p)) }
 {
     let n = size.cells();
     let k = pane.size.cells();
-    draw_pane(&mut row[0..n], size, &memory[38304..38304 + k], pane.size);
+    draw_pane(&mut row[0..n], size, &memory[CELLS..CELLS + k], pane.size);
 }
 
-// One go of drawing, with room for 4,096 bytes.
+// One go of drawing.
 fn send_cells(
     memory: &mut [u64; MEMORY],
-    row: &[u64; 12000],
+    row: &[u64; MOST_CELLS],
     size: Size,
     pen: &mut Pen,
     out: &mut [u8; OUT],
@@ -45,11 +48,11 @@ fn send_cells(
 {
     let n = size.cells();
     draw(
-        &mut memory[2304..2304 + n],
+        &mut memory[SCREEN..SCREEN + n],
         &row[0..n],
         size,
         pen,
-        &mut out[0..4096],
+        &mut out[0..ROOM],
     )
 }
 
@@ -59,7 +62,7 @@ fn send_cursor(size: Size, pane: &Terminal, pen: &mut Pen, out: &mut [u8; OUT]) 
         Closed (closing_at size.wide size.high (spot (one_pane size.wide size.high i (term_of pane.now rs a) n p)) pen.old)
         pen.new result out.old out.new }
 {
-    finish(pen, size, cursor_of(size, pane), &mut out[0..4096])
+    finish(pen, size, cursor_of(size, pane), &mut out[0..ROOM])
 }
 
 // No cell differs: the cursor is put right, or there is nothing to do.
@@ -84,7 +87,7 @@ fn show(memory: &mut [u64; MEMORY], x: Machine, p: Held, out: &mut [u8; OUT]) ->
     requires looked { x.attached ≡ true }
     ensures { Does (going (glass_of x memory.old) (view_of x memory.old)) memory.old memory.new result out.old out.new }
 {
-    let mut row = [0u64; 12000];
+    let mut row = [0u64; MOST_CELLS];
     draw_picture(memory, x.size, &p.terminal, &mut row);
     let mut y = x;
     let n = send_cells(memory, &row, x.size, &mut y.pen, out);

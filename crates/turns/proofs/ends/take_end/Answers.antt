@@ -4,9 +4,8 @@ use Rattle.meaning.specs.Panes.{Turn, turn, turn_of, gone, over}
 use Rattle.meaning.specs.Promise.{core}
 use Rattle.machine.specs.States.{glass_of}
 use Rattle.machine.specs.declared.state.Machine.{Machine}
-use Rattle.turns.specs.Turned.{emptied}
 use Rattle.turns.proofs.Going.{stored_done}
-use Rattle.turns.proofs.Gone.{without_pane, gone_last, gone_other, gone_nothing, end_goes, end_over}
+use Rattle.turns.proofs.Gone.{emptied, without_pane, gone_last, gone_other, gone_nothing, end_goes, end_over}
 use Rattle.turns.proofs.ends.take_end.Goals as goal
 use Rattle.turns.proofs.ends.take_end.Goals.{in_default-via-in-Some+else-p-id, in_default-via-in_default}
 
