@@ -1,9 +1,6 @@
 // The machine for callers from C: one step, whose answer is given as the number of its case and its value.
 #![tactic(auto)]
 
-ghost use Rattle.std.specs.Prelude.{◌≡◌};
-ghost use Rattle.engine.specs.Detaching.{detaching_machine};
-ghost use Rattle.meaning.specs.Entry.{step_fits};
 ghost use Rattle.glass_c.specs.Numbers.{Numbered, Steps};
 
 use live::step;
