@@ -13,7 +13,9 @@ pub const MEMORY: usize = 238304;
 
 // Where the pane's header of 64 numbers begins in the memory, where the viewer's screen does, and where the pane's cells do.
 pub const HEADER: usize = 256;
+
 pub const SCREEN: usize = 2304;
+
 pub const CELLS: usize = 38304;
 
 // How many cells a screen has at most.

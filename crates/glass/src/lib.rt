@@ -5,9 +5,8 @@ ghost use Rattle.std.specs.Prelude.{◌≡◌};
 ghost use Rattle.meaning.specs.Entry.{StepSays, step_fits};
 ghost use Rattle.engine.specs.Own.{own};
 
-use meaning::Told;
-
 pub use engine::{MEMORY, OUT};
+use meaning::Told;
 
 fn fits(memory: &[u64], kind: u64, out: &[u8]) -> bool
     ensures { result ≡ step_fits own memory.now kind out.now }

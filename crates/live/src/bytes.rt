@@ -28,7 +28,11 @@ fn feed_pane(
 {
     let n = terminal.size.cells();
     terminal
-        .feed(&mut memory[CELLS..CELLS + n], bytes, &mut out[0..MOST_ANSWERED])
+        .feed(
+            &mut memory[CELLS..CELLS + n],
+            bytes,
+            &mut out[0..MOST_ANSWERED],
+        )
         .unwrap()
 }
 
