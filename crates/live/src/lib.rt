@@ -21,7 +21,7 @@ pub use engine::{MEMORY, OUT};
 use meaning::Told;
 
 // One step by what comes. Memory or a row that isn't as large as it has to be is answered by No(0), and nothing changes; what is not proper is answered by
-// Wait, and nothing changes.
+// Wait, and nothing changes. The refusal is told as `step` tells it, not by an option, since the log of acts has it so.
 pub fn tell(memory: &mut [u64], coming: Coming, bytes: &[u8], out: &mut [u8]) -> Told
     ensures { ToldSays detaching_machine (comes (event_of coming bytes.now)) memory.old out.old (sizes_fit detaching_machine memory.old out.old) result memory.new out.new }
 {
@@ -33,7 +33,7 @@ pub fn tell(memory: &mut [u64], coming: Coming, bytes: &[u8], out: &mut [u8]) ->
     Told::No(0)
 }
 
-// One step with nothing new, after one that did not wait; refused likewise. The refusal is a number told, as `step` has it, since the log of acts has it so.
+// One step with nothing new, after one that did not wait; refused likewise.
 pub fn go_on(memory: &mut [u64], out: &mut [u8]) -> Told
     ensures { ToldSays detaching_machine next memory.old out.old (sizes_fit detaching_machine memory.old out.old) result memory.new out.new }
 {
