@@ -11,11 +11,13 @@ ghost use Rattle.engine.specs.Detaching.{detaching_machine};
 // How many numbers the memory has.
 pub const MEMORY: usize = 238304;
 
-// Where the pane's header of 64 numbers begins in the memory, where the viewer's screen does, and where the pane's cells do.
+// Where the pane's header of 64 numbers begins in the memory.
 pub const HEADER: usize = 256;
 
+// Where the viewer's screen begins.
 pub const SCREEN: usize = 2304;
 
+// Where the pane's cells begin.
 pub const CELLS: usize = 38304;
 
 // How many cells a screen has at most.
