@@ -1,10 +1,7 @@
 use Rattle.std.proofs.Common.{refl, ◌∙◌, arith, rules}
 use Rattle.std.proofs.lemmas.Bool.Decides.{nat_tests}
-use Rattle.grid.proofs.Parts.{rows_wiped, rows_wiped_none, row_fits}
+use Rattle.grid.proofs.Parts.{rows_wiped, rows_wiped_none}
 use Rattle.grid.proofs.line.erase.Goals as goal
-
-pub slice_bounds-fill-end : goal.slice_bounds-fill-end
-slice_bounds-fill-end c = row_fits _ c.args.size.high _ _ _ (c.if-cells.false ∙ c.cells.ensures.0) (omega arith) (omega arith)
 
 pub returns-then-first-end : goal.returns-then-first-end
 returns-then-first-end c = record {

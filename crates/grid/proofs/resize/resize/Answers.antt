@@ -7,10 +7,6 @@ use Rattle.grid.proofs.resize.resize.Goals as goal
 pub loop-k-init : goal.loop-k-init
 loop-k-init c = fitted_none c.args.new_size.wide c.args.new_size.high c.args.new.now _ (c.if-new-cells.false ∙ c.cells-else-old-cells.ensures.0) (c.fill.ensures.after (λ y e. e))
 
-pub slice_bounds-copy_from_slice-end : goal.slice_bounds-copy_from_slice-end
-slice_bounds-copy_from_slice-end c =
-    row_fits c.args.new_size.wide c.args.new_size.high _ c.min-wide.result _ (c.loop-k.auto.new ∙ c.fill.ensures.len ∙ (c.if-new-cells.false ∙ c.cells-else-old-cells.ensures.0)) (omega arith) (omega arith)
-
 pub slice_bounds-copy_from_slice-end-in-loop-k : goal.slice_bounds-copy_from_slice-end-in-loop-k
 slice_bounds-copy_from_slice-end-in-loop-k c =
     row_fits c.args.old_size.wide c.args.old_size.high _ c.min-wide.result _ (c.if-old-cells.false ∙ c.cells.ensures.0) (omega arith) (omega arith)

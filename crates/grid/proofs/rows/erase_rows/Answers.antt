@@ -1,13 +1,7 @@
-use Rattle.std.proofs.Common.{◌∙◌, mul-le-mul_right, arith, rules}
+use Rattle.std.proofs.Common.{◌∙◌, arith, rules}
 use Rattle.std.proofs.lemmas.Bool.Decides.{nat_tests}
 use Rattle.grid.proofs.Regions.{rows_filled, row_starts_in}
 use Rattle.grid.proofs.rows.erase_rows.Goals as goal
-
-pub slice_bounds-fill-count : goal.slice_bounds-fill-count
-slice_bounds-fill-count c = mul-le-mul_right _ (omega arith)
-
-pub slice_bounds-fill-start : goal.slice_bounds-fill-start
-slice_bounds-fill-start c = mul-le-mul_right _ (omega arith)
 
 pub slice_bounds-fill-end : goal.slice_bounds-fill-end
 slice_bounds-fill-end c = row_starts_in _ c.args.size.high _ _ (c.if-cells.false ∙ c.cells.ensures.0) (omega arith)

@@ -1,13 +1,7 @@
-use Rattle.std.proofs.Common.{refl, ◌∙◌, mul-le-mul_right, arith, rules}
+use Rattle.std.proofs.Common.{refl, ◌∙◌, arith, rules}
 use Rattle.std.proofs.lemmas.Bool.Decides.{nat_tests}
 use Rattle.grid.proofs.Regions.{rows_scrolled_down, row_starts_in}
 use Rattle.grid.proofs.rows.scroll_down.Goals as goal
-
-pub slice_bounds-shift_in-count : goal.slice_bounds-shift_in-count
-slice_bounds-shift_in-count c = mul-le-mul_right _ (omega arith)
-
-pub slice_bounds-shift_in-start : goal.slice_bounds-shift_in-start
-slice_bounds-shift_in-start c = mul-le-mul_right _ (omega arith)
 
 pub slice_bounds-shift_in-end : goal.slice_bounds-shift_in-end
 slice_bounds-shift_in-end c = row_starts_in _ c.args.size.high _ _ (c.if-cells.false ∙ c.cells.ensures.0) (omega arith)

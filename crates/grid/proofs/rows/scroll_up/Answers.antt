@@ -1,13 +1,7 @@
-use Rattle.std.proofs.Common.{refl, ◌∙◌, mul-le-mul_right, arith, rules}
+use Rattle.std.proofs.Common.{refl, ◌∙◌, arith, rules}
 use Rattle.std.proofs.lemmas.Bool.Decides.{nat_tests}
 use Rattle.grid.proofs.Regions.{rows_scrolled_up, row_starts_in}
 use Rattle.grid.proofs.rows.scroll_up.Goals as goal
-
-pub slice_bounds-shift_out-count : goal.slice_bounds-shift_out-count
-slice_bounds-shift_out-count c = mul-le-mul_right _ (omega arith)
-
-pub slice_bounds-shift_out-start : goal.slice_bounds-shift_out-start
-slice_bounds-shift_out-start c = mul-le-mul_right _ (omega arith)
 
 pub slice_bounds-shift_out-end : goal.slice_bounds-shift_out-end
 slice_bounds-shift_out-end c = row_starts_in _ c.args.size.high _ _ (c.if-cells.false ∙ c.cells.ensures.0) (omega arith)
