@@ -17,7 +17,8 @@ impl Terminal {
     {
         let first = if self.modes.origin { self.top } else { 0 };
         let row = self.cursor.row.saturating_sub(first) + 1;
-        answer.text(b"\x1b[");
+        answer.push(b'\x1b');
+        answer.push(b'[');
         answer.number(row);
         answer.push(b';');
         answer.number(self.cursor.col + 1);
@@ -30,7 +31,10 @@ impl Terminal {
         ensures added { Adds answer.old answer.new (27 ∷ 91 ∷ 48 ∷ 110 ∷ []) }
         ensures most { answer.new.len ≤ answer.old.len + 10 }
     {
-        answer.text(b"\x1b[0n");
+        answer.push(b'\x1b');
+        answer.push(b'[');
+        answer.push(b'0');
+        answer.push(b'n');
     }
 
     // DSR. Its parameter is read where it is answered, as a final byte is; an enum between would be read once more.

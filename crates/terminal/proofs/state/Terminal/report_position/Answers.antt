@@ -17,9 +17,10 @@ returns-clause-added c =
     let s = c.args.self.now in
     let row : c.saturating_sub-row.result + 1 ≡ suc (s.cursor.row - pick s.modes.origin s.top 0) =
     elim c.if-self.branch [ then-self w ↦ grind (arith, nat_tests) | else-self w ↦ grind (arith, nat_tests) ] in
-    let p = c.text.ensures.added (omega arith) in
+    let p = c.push.ensures.added (omega arith) in
+    let q = c.push-2.ensures.added (omega arith) in
     let d = told_as _ _ row (c.number.ensures.added (omega arith) (omega arith)) in
-    let e = c.push.ensures.added (omega arith) in
+    let e = c.push-3.ensures.added (omega arith) in
     let f = told_as _ _ (add-one s.cursor.col) (c.number-2.ensures.added (omega arith) (omega arith)) in
-    let g = c.push-2.ensures.added (omega arith) in
-    λ xs a. both (both (both p d) (both e f)) g
+    let g = c.push-4.ensures.added (omega arith) in
+    λ xs a. both (both (both p (both q d)) (both e f)) g
