@@ -1,5 +1,5 @@
 -- The loop that feeds a terminal part by part: what is left, from the state so far, gives the whole.
-use Rattle.std.proofs.Common.{◌≡◌, ℕ, ◌*◌, ◌≤◌, Bool, true, false, List, [], ◌++◌, length, Some, None, Ok, Err, Option, Result, sym, refl, ap, ◌∙◌, arith, MatchOption}
+use Rattle.std.proofs.Common.{◌≡◌, ℕ, ◌*◌, ◌≤◌, Bool, true, false, List, [], ◌++◌, length, Some, None, Ok, Err, Option, Result, sym, refl, ap, ◌∙◌, MatchOption}
 use Rattle.std.proofs.lemmas.List.{nil_from_length}
 use Rattle.std.proofs.lemmas.Bool.{eq-eqb, le-leb}
 use Rattle.meaning.specs.Screen.{Term, fresh}
@@ -27,7 +27,7 @@ pub driving_none : (t : Terminal) (cells bytes rest : List ℕ) → rest ≡ byt
 driving_none t cells bytes rest e = record { term = rw e; wide = refl; high = refl }
 
 module _ {t t₁ : Terminal} {cells bytes cells₁ rest : List ℕ} (d : Driving t cells bytes t₁ cells₁ rest) where
-  driving_more : (part rest₁ out : List ℕ) (r : ℕ) (t₂ : Terminal) (cells₂ out₂ : List ℕ) → rest ≡ part ++ rest₁ → Fed t₁ cells₁ part out r t₂ cells₂ out₂ → Driving t cells bytes t₂ cells₂ rest₁
+  pub driving_more : (part rest₁ out : List ℕ) (r : ℕ) (t₂ : Terminal) (cells₂ out₂ : List ℕ) → rest ≡ part ++ rest₁ → Fed t₁ cells₁ part out r t₂ cells₂ out₂ → Driving t cells bytes t₂ cells₂ rest₁
   driving_more part rest₁ out r t₂ cells₂ out₂ e f =
       let u = term_on t₁ cells₁ [] in
       let a : Alike (term_on t₂ cells₂ []) (written u part) = record { same = ap unheard f.term } in
@@ -36,15 +36,15 @@ module _ {t t₁ : Terminal} {cells bytes cells₁ rest : List ℕ} (d : Driving
       record { term = w.same ∙ (ap unheard s ∙ d.term); wide = f.wide ∙ d.wide; high = f.high ∙ d.high }
 
   -- a part of at most 4,096 bytes can be fed
-  part_fits : (part out : List ℕ) → length cells₁ ≡ t.size.high * t.size.wide → length part ≤ 4096 → length out ≡ 40960 → can_feed t₁ cells₁ part out ≡ true
+  pub part_fits : (part out : List ℕ) → length cells₁ ≡ t.size.high * t.size.wide → length part ≤ 4096 → 10 * length part ≤ length out → can_feed t₁ cells₁ part out ≡ true
   part_fits part out e l o =
       let w = d.wide in
       let h = d.high in
       let f : length cells₁ ≡ t₁.size.high * t₁.size.wide = rw (h, w) e in
-      simp (eq-eqb _ _ f, le-leb (length part) 4096 l, le-leb (10 * length part) (length out) (omega arith))
+      simp (eq-eqb _ _ f, le-leb (length part) 4096 l, le-leb (10 * length part) (length out) o)
 
   -- and so it has been
-  pub driving_fed : (part rest₁ out : List ℕ) (r : Option ℕ) (t₂ : Terminal) (cells₂ out₂ : List ℕ) → rest ≡ part ++ rest₁ → length cells₁ ≡ t.size.high * t.size.wide → length part ≤ 4096 → length out ≡ 40960
+  pub driving_fed : (part rest₁ out : List ℕ) (r : Option ℕ) (t₂ : Terminal) (cells₂ out₂ : List ℕ) → rest ≡ part ++ rest₁ → length cells₁ ≡ t.size.high * t.size.wide → length part ≤ 4096 → 10 * length part ≤ length out
       → MatchOption r
       ((can_feed t₁ cells₁ part out ≡ false) × (t₂ ≡ t₁) × (cells₂ ≡ cells₁) × (out₂ ≡ out))
       (λ m. (can_feed t₁ cells₁ part out ≡ true) × Fed t₁ cells₁ part out m t₂ cells₂ out₂)

@@ -57,7 +57,7 @@ flat_push f [] x = append-nil (f x)
 flat_push f (y ∷ ys) x = ap (λ t. f y ++ t) (flat_push f ys x) ∙ sym (append_assoc (f y) (flat f ys) (f x))
 
 -- row k of a screen's cells
-row_part : (w h k : ℕ) (xs : List ℕ) → k < h → get_or (rows_of w h xs) k [] ≡ map unpacked (take w (drop (k * w) xs))
+pub row_part : (w h k : ℕ) (xs : List ℕ) → k < h → get_or (rows_of w h xs) k [] ≡ map unpacked (take w (drop (k * w) xs))
 unfolding rows_of
 row_part w h k xs l = getD_pieces w h k (map unpacked xs) l ∙ rw (drop-map unpacked (k * w) xs, take-map unpacked w (drop (k * w) xs))
 
