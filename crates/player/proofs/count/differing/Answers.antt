@@ -1,14 +1,24 @@
-use Rattle.std.proofs.Common.{◌≡◌, length, ◌∙◌, rules, tests}
-use Rattle.std.specs.List.{filter, zip}
-use Rattle.std.proofs.lemmas.Iterator.{YieldsList-from_slice, YieldsList-from_zip}
-use Rattle.std.proofs.lemmas.Iterator.Consumers.{YieldsList-from_filter, count_from_yields_List}
-use Rattle.player.proofs.Counting.{other_cells, counted, by_rows}
+use Rattle.std.proofs.Common.{◌<◌, length, arith}
+use Rattle.player.proofs.Counting.{one_same, one_other, none_left, by_rows}
 use Rattle.player.proofs.count.differing.Goals as goal
+use Rattle.player.proofs.count.differing.Goals.{then-before-i, else-before-i}
+
+pub loop-i-preserved : goal.loop-i-preserved
+loop-i-preserved c =
+    let end = c.min-end.ensures in
+    let h : c.loop-i.i < length c.args.before.now = omega arith in
+    let k : c.loop-i.i < length c.args.after.now = omega arith in
+    elim c.if-before-i.branch [
+      | then-before-i w ↦
+          let e = one_other c.args.before.now c.args.after.now c.loop-i.i c.loop-i.count _ h k w.if-before-i.true c.loop-i.invariant.0 in
+          (omega (arith, w.count-is), omega (arith, w.count-is))
+      | else-before-i w ↦
+          let e = one_same c.args.before.now c.args.after.now c.loop-i.i c.loop-i.count _ h k w.if-before-i.false c.loop-i.invariant.0 in
+          (omega (arith, w.count-is), omega (arith, w.count-is))
+    ]
 
 pub returns : goal.returns
 returns c =
-    let xs = c.args.before.now in
-    let ys = c.args.after.now in
-    let n : c.count.result ≡ length (filter other_cells (zip xs ys)) = count_from_yields_List c.filter.result c.count.result c.count.ensures.ran
-    (YieldsList-from_filter _ other_cells (YieldsList-from_zip (YieldsList-from_slice xs cc) (YieldsList-from_slice ys cc)) c.filter.ensures.closure (λ x b q k. search (rules, tests))) in
-    record { flat = n ∙ counted xs ys; rows = by_rows _ _ _ (n ∙ counted xs ys) }
+    let end = c.min-end.ensures in
+    let e = none_left c.args.before.now c.args.after.now c.loop-i.i _ _ (omega arith) c.loop-i.invariant.0 in
+    record { flat = e; rows = by_rows _ _ _ e }
