@@ -49,16 +49,18 @@ impl Machine {
 
     // One thing that comes, and what is done until the machine waits; whether it is over then.
     fn serve(&mut self, kind: u64, a: u64, b: u64, bytes: &[u8]) -> anyhow::Result<bool> {
-        let mut told = self.act(kind, a, b, bytes)?;
+        // What the machine is told: what has come, and from then on to go on.
+        let mut next = (kind, a, b, bytes);
         let mut over = false;
         for _ in 0..MOST {
-            match told {
+            let (kind, a, b, bytes) = next;
+            match self.act(kind, a, b, bytes)? {
                 Told::Wait => return Ok(over),
                 Told::No(_) => bail!("the machine refuses its memory"),
                 Told::Over => over = true,
                 _ => {}
             }
-            told = self.act(4, 0, 0, &[])?;
+            next = (4, 0, 0, &[]);
         }
         bail!("the machine does not come to wait")
     }
@@ -67,12 +69,13 @@ impl Machine {
 impl Follows for Machine {
     // The interface to C and the formal statement tell `step` a kind and numbers.
     fn comes(&mut self, coming: Coming, bytes: &[u8]) -> anyhow::Result<bool> {
-        match coming {
-            Coming::Key(code) => self.serve(0, u64::from(code), 0, bytes),
-            Coming::From(pane) => self.serve(1, pane, 0, bytes),
-            Coming::Gone(pane) => self.serve(2, pane, 0, bytes),
-            Coming::Look(columns, rows) => self.serve(3, columns, rows, bytes),
-        }
+        let (kind, a, b) = match coming {
+            Coming::Key(code) => (0, u64::from(code), 0),
+            Coming::From(pane) => (1, pane, 0),
+            Coming::Gone(pane) => (2, pane, 0),
+            Coming::Look(columns, rows) => (3, columns, rows),
+        };
+        self.serve(kind, a, b, bytes)
     }
 }
 
