@@ -160,7 +160,7 @@ pub tells_no : (t : ToldIt) (m m₁ ys ys₁ : List ℕ) → sizes_fit detaching
 unfolding ToldSays
 tells_no t m m₁ ys ys₁ s e f = subst (λ (b : Bool). ToldSays detaching_machine t m ys b (No 0) m₁ ys₁) (sym s) (refl, e, f)
 
-fits_is : (m : List ℕ) (kind : ℕ) (ys : List ℕ) → step_fits detaching_machine m kind ys ≡ (eqb (length m) 238304 && (leb kind 4 && leb 65536 (length ys)))
+pub fits_is : (m : List ℕ) (kind : ℕ) (ys : List ℕ) → step_fits detaching_machine m kind ys ≡ (eqb (length m) 238304 && (leb kind 4 && leb 65536 (length ys)))
 unfolding step_fits
 fits_is m kind ys = rw detaching_start
 

@@ -32,7 +32,7 @@ unfolding told_of
 told_next k a b bs e = sym (ap (λ (z : ℕ). told_of z a b bs) e)
 
 -- what a slice of bytes holds are bytes
-bytes_from_fits : (bs : List ℕ) → ((i : ℕ) → Fits w8 (get_or bs i 0)) → every (λ b. ltb b 256) bs ≡ true
+pub bytes_from_fits : (bs : List ℕ) → ((i : ℕ) → Fits w8 (get_or bs i 0)) → every (λ b. ltb b 256) bs ≡ true
 bytes_from_fits [] f = refl
 bytes_from_fits (b ∷ bs) f = and_from (ltb b 256) _ (lt-ltb b 256 (f 0).fits) (bytes_from_fits bs (λ i. f (suc i)))
 

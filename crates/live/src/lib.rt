@@ -22,8 +22,10 @@ use meaning::Told;
 
 // One step by what comes. Memory or a row that isn't as large as it has to be is answered by No(0), and nothing changes; what is not proper is answered by
 // Wait, and nothing changes. The refusal is told as `step` tells it, not by an option, since the log of acts has it so.
+#[tactic(auto, using(engine::proofs::Whole::whole_detaching))]
 pub fn tell(memory: &mut [u64], coming: Coming, bytes: &[u8], out: &mut [u8]) -> Told
-    ensures { ToldSays detaching_machine (comes (event_of coming bytes.now)) memory.old out.old (sizes_fit detaching_machine memory.old out.old) result memory.new out.new }
+    ensures says { ToldSays detaching_machine (comes (event_of coming bytes.now)) memory.old out.old (sizes_fit detaching_machine memory.old out.old) result memory.new out.new }
+    ensures whole { Whole detaching detaching_machine }
 {
     if let Some(memory) = memory.as_mut_array()
         && let Some(out) = out.first_chunk_mut()
@@ -34,8 +36,10 @@ pub fn tell(memory: &mut [u64], coming: Coming, bytes: &[u8], out: &mut [u8]) ->
 }
 
 // One step with nothing new, after one that did not wait; refused likewise.
+#[tactic(auto, using(engine::proofs::Whole::whole_detaching))]
 pub fn go_on(memory: &mut [u64], out: &mut [u8]) -> Told
-    ensures { ToldSays detaching_machine next memory.old out.old (sizes_fit detaching_machine memory.old out.old) result memory.new out.new }
+    ensures says { ToldSays detaching_machine next memory.old out.old (sizes_fit detaching_machine memory.old out.old) result memory.new out.new }
+    ensures whole { Whole detaching detaching_machine }
 {
     if let Some(memory) = memory.as_mut_array()
         && let Some(out) = out.first_chunk_mut()

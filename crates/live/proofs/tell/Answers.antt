@@ -3,11 +3,11 @@ use Rattle.live.proofs.Stepping.{tells, tells_no, sizes_wrong, row_short}
 use Rattle.live.proofs.tell.Goals as goal
 use Rattle.live.proofs.tell.Goals.{in_default-via-in-None-1, in_default-via-in-Some+in-None-1}
 
-pub returns : goal.returns
-returns c = tells _ _ _ _ _ _ _ _ c.in-Some.ensures.cases c.in-Some-first_chunk_mut.ensures.cases c.take.ensures.row c.take.ensures.does
+pub returns-clause-says : goal.returns-clause-says
+returns-clause-says c = tells _ _ _ _ _ _ _ _ c.in-Some.ensures.cases c.in-Some-first_chunk_mut.ensures.cases c.take.ensures.row c.take.ensures.does
 
-pub returns-2 : goal.returns-2
-returns-2 c = elim c.in_default.branch [
+pub returns-2-clause-says : goal.returns-2-clause-says
+returns-2-clause-says c = elim c.in_default.branch [
   | in_default-via-in-None-1 w ↦ tells_no _ _ _ _ _ (sizes_wrong _ _ (λ e. search rules)) w.memory-is w.out-is
   | in_default-via-in-Some+in-None-1 w ↦ tells_no _ _ _ _ _ (row_short _ _ (search rules)) (w.memory-is ∙ w.in-Some.ensures.cases.same) w.out-is
 ]
