@@ -1,4 +1,7 @@
 // Where a program's day comes from.
+ghost use Rattle.std.specs.Prelude.{IfOk};
+ghost use Rattle.following.specs.Reading.{OfText};
+
 use days::{Line, read_day};
 use std::io::Read;
 use std::{env, fs};
@@ -16,7 +19,9 @@ fn input(rt: &HostRuntime) -> anyhow::Result<Vec<u8>> {
 }
 
 // The lines of the day that the program is given.
-pub fn read(rt: &HostRuntime) -> anyhow::Result<Vec<Line>> {
+pub fn read(rt: &HostRuntime) -> anyhow::Result<Vec<Line>>
+    ensures { IfOk result (λ day. OfText day.items) }
+{
     let text = input(rt)?;
     Ok(read_day(rt.alloc(), text.as_slice())?)
 }
