@@ -56,7 +56,7 @@ pub record Read (hd m : List ℕ) (x : Machine) : Type 0 where
   pub few_panes : get_or hd 7 0 < 2 ^ 47
 
 -- a memory in use
-used_found : (m : List ℕ) (x : Machine) → Read (part m 0 16) m x → used m ≡ state_of x m
+pub used_found : (m : List ℕ) (x : Machine) → Read (part m 0 16) m x → used m ≡ state_of x m
 unfolding state_of
 used_found m x r =
     let o₁ = at_header m (get_or (part m 0 16) 6 0) (get_or (part m 0 16) 7 0) x.pane r.pane in
@@ -70,7 +70,7 @@ pane_fits : (has i : ℕ) (hd : List ℕ) (o : Option Held) → PaneIs has i hd 
 pane_fits has i hd None e = or_left (not (yes has)) (header_fits hd) (not_from_false (yes has) e)
 pane_fits has i hd (Some p) e = or_right (not (yes has)) (header_fits hd) e.2.fits
 
-fits_used : (m : List ℕ) (x : Machine) → Read (part m 0 16) m x → used_fits m ≡ true
+pub fits_used : (m : List ℕ) (x : Machine) → Read (part m 0 16) m x → used_fits m ≡ true
 fits_used m x r =
     and_from _ _ (and_from _ _ r.sized (and_from _ _ (lt-ltb _ _ (subst (λ (n : ℕ). n < 2 ^ 47) r.next r.few)) (lt-ltb _ _ r.few_panes)))
     (pane_fits (get_or (part m 0 16) 6 0) (get_or (part m 0 16) 7 0) (part m header_at 64) x.pane (at_header m (get_or (part m 0 16) 6 0) (get_or (part m 0 16) 7 0) x.pane r.pane))

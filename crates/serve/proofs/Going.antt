@@ -119,7 +119,7 @@ module _ (e : Engine) (all : Went) (fit : Bool) (left : ℕ) (m : List ℕ) (t :
       (sym p.0) (done_as (rest true) _ l ended out _ r out₁ p.1)
   goes_at false fine p = absurd (fine 0 p.0)
 
-  goes_so : ((n : ℕ) → r ≡ No n → ⊥) → told_done (rest fit) m₁ (kept l r out₁) ended r ≡ all
+  pub goes_so : ((n : ℕ) → r ≡ No n → ⊥) → told_done (rest fit) m₁ (kept l r out₁) ended r ≡ all
   goes_so fine = sym (goes_at fit fine stepped) ∙ one_less
 
   -- it waits, and the log has got that
