@@ -97,7 +97,9 @@ pub fn read_text(heap: Global, text: &[u8]) -> Result<Vec<u8>, Fault>
     let mut mode = Mode::Plain;
     for c in text {
         let (next, byte) = step(mode, *c);
-        out.extend(byte)?;
+        if let Some(b) = byte {
+            out.push(b)?;
+        }
         mode = next;
     }
     match mode {
