@@ -4,16 +4,16 @@ ghost use Rattle.shown.specs.Driven.{Driven, FedAll};
 
 use terminal::state::Terminal;
 
-// Few, since a row for what they may be answered is cleared each time: bytes often come by threes and fours.
+// Few, since a row for what they may be answered is cleared for each part: bytes often come by threes and fours.
 const MOST: usize = 64;
 
-fn feed_parts(term: &mut Terminal, cells: &mut [u64], bytes: &[u8], answer: &mut [u8])
-    requires cells { length cells.old ≡ term.old.size.high * term.old.size.wide }
-    requires room { length answer.old ≡ 640 }
+fn feed_parts(term: &mut Terminal, cells: &mut [u64], bytes: &[u8])
+    requires { length cells.old ≡ term.old.size.high * term.old.size.wide }
     ensures { FedAll term.old cells.old bytes.now term.new cells.new }
 {
     for part in bytes.chunks(MOST) {
-        term.feed(cells, part, answer);
+        let mut answer = [0; 10 * MOST];
+        term.feed(cells, part, &mut answer);
     }
 }
 
@@ -24,7 +24,6 @@ pub fn feed_all(term: &mut Terminal, cells: &mut [u64], bytes: &[u8]) -> bool
     if cells.len() != term.size.cells() {
         return false;
     }
-    let mut answer = [0; 10 * MOST];
-    feed_parts(term, cells, bytes, &mut answer);
+    feed_parts(term, cells, bytes);
     true
 }
