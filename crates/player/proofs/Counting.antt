@@ -11,6 +11,7 @@ use Rattle.render_law.specs.Law.{differing}
 use Rattle.render_law.proofs.Law.{writer_law}
 use Rattle.player.specs.Grants.{is_leave, still_attached}
 
+-- the number that `differing` means, by the library's words for lists
 abbrev pub other_cells : ℕ × ℕ → Bool
 other_cells p = not (eqb p.0 p.1)
 
