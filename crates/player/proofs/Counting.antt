@@ -1,8 +1,7 @@
 -- Counting the cells in which two screens differ, and looking for a leave among acts.
-use Rattle.std.proofs.Common.{◌≡◌, ℕ, ◌+◌, ◌*◌, ◌<◌, ◌≤◌, min, Bool, true, false, not, cond, eqb, List, [], ◌∷◌, length, get_or, drop, sym, refl, ◌∙◌, zero-add, arith}
+use Rattle.std.proofs.Common.{◌≡◌, ℕ, ◌+◌, ◌*◌, ◌<◌, ◌≤◌, min, Bool, true, false, not, eqb, List, [], ◌∷◌, length, get_or, drop, sym, refl, ◌∙◌, arith}
 use Rattle.std.proofs.lemmas.List.{at_drop_more, length-drop}
 use Rattle.std.proofs.lemmas.Bool.{eq-eqb, ne_eqb}
-use Rattle.std.specs.List.{filter, zip}
 use Rattle.meaning.specs.Words.{pick, any}
 use Rattle.meaning.specs.Picture.{differs}
 use Rattle.meaning.specs.declared.answer.Told.{Told}
@@ -10,20 +9,6 @@ use Rattle.grid.specs.Cells.{rows_of}
 use Rattle.render_law.specs.Law.{differing}
 use Rattle.render_law.proofs.Law.{writer_law}
 use Rattle.player.specs.Grants.{is_leave, still_attached}
-
--- the number that `differing` means, by the library's words for lists
-abbrev pub other_cells : ℕ × ℕ → Bool
-other_cells p = not (eqb p.0 p.1)
-
-pub counted : (xs ys : List ℕ) → length (filter other_cells (zip xs ys)) ≡ differing xs ys
-unfolding differing
-counted [] ys = refl
-counted (x ∷ xs) [] = refl
-counted (x ∷ xs) (y ∷ ys) = by (eqb x y) (counted xs ys)
-  where
-    by : (b : Bool) → length (filter other_cells (zip xs ys)) ≡ differing xs ys → length (cond (not b) ((x, y) ∷ filter other_cells (zip xs ys)) (filter other_cells (zip xs ys))) ≡ pick b 0 1 + differing xs ys
-    by true e = e ∙ sym (zero-add _)
-    by false e = omega arith
 
 cells_here : (xs ys : List ℕ) (i : ℕ) → i < length xs → i < length ys → differing (drop i xs) (drop i ys) ≡ pick (eqb (get_or xs i 0) (get_or ys i 0)) 0 1 + differing (drop (i + 1) xs) (drop (i + 1) ys)
 unfolding differing

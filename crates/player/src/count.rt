@@ -12,7 +12,7 @@ pub fn differing(before: &[u64], after: &[u64]) -> usize
     ensures flat { result ≡ law.differing before.now after.now }
     ensures rows { (w h : ℕ) → length before.now ≡ h * w → length after.now ≡ h * w → result ≡ differs (rows_of w h before.now) (rows_of w h after.now) }
 {
-    // By number: `zip`, `filter` and `count` take twice the time for each cell, also over parts cut to one length.
+    // By number: `zip`, `filter` and `count` take three times the instructions for each cell, also over parts cut to one length.
     let end = before.len().min(after.len());
     let mut count = 0;
     for i in 0..end {

@@ -4,7 +4,7 @@ ghost use Rattle.shown.specs.Driven.{Driven, FedAll};
 
 use terminal::state::Terminal;
 
-// Few, since a row for what they may be answered is cleared for each part: bytes often come by threes and fours.
+// Few, since a row for the answers is cleared for each part, and what is fed is often short.
 const MOST: usize = 64;
 
 fn feed_parts(term: &mut Terminal, cells: &mut [u64], bytes: &[u8])

@@ -1,4 +1,5 @@
-// Device status reports (DSR): what the terminal answers to the program that writes.
+// Device status reports (DSR): what the terminal answers to the program that writes. They are pushed byte by byte: a text that is copied in would keep a row
+// of answers which its owner never reads, and the compiler would clear it.
 ghost use Rattle.std.specs.Prelude.{◌≡◌, ℕ, ◌+◌, ◌≤◌, List, [], ◌∷◌, length};
 ghost use Rattle.meaning.specs.Bytes.{place_told, answers};
 ghost use Rattle.output.specs.Added.{Adds};
